@@ -1,0 +1,17 @@
+pub mod Quorum
+pub mod Fronts
+pub mod At
+pub mod Sound
+pub mod Dead
+pub mod Raise
+pub mod Agree
+pub mod Votes
+pub mod Stand
+pub mod Grant
+pub mod Lead
+pub mod Put
+pub mod Adopt
+pub mod Begin
+pub mod Run
+pub mod Grow
+pub mod Laws
