@@ -1,0 +1,100 @@
+-- What is read of bytes is spelled so, and what is spelled so is read.
+use Rattle.std.proofs.Common.{◌≡◌, ℕ, suc, ◌+◌, ◌*◌, ◌-◌, ◌/◌, ◌%◌, ◌<◌, ◌≤◌, Bool, true, false, cond, leb, eqb, ◌&&◌, ◌⊎◌, ⊎_elim, List, [], ◌∷◌, ◌++◌, length, refl, sym, ap, subst, ◌∙◌, arith, Option, Some, None}
+use Rattle.std.proofs.lemmas.Bool.Decides.{nat_tests}
+use Rattle.std.proofs.lemmas.Bool.{eqb-true, cond-true, cond-false}
+use Rattle.std.specs.Fmt.{digit_glyph}
+use Rattle.std.specs.List.{flat_map, AllByRecursion}
+use Rattle.percent_encoding.specs.Percent.{percent_encode_byte}
+use Rattle.khepri_terms.specs.Many.{many, ◌>>=◌}
+use Rattle.khepri_terms.specs.Bytes.{is_plain, byte_text, bytes_text, AreBytes, hex_value, escape_at, byte_at, bytes_at}
+use Rattle.khepri_terms.proofs.Cases.{bind_some, if_some, guard_some, unless_some}
+use Rattle.khepri_terms.proofs.Reading.{ahead, Took, many_takes, many_again}
+
+pub plain_small : (b : ℕ) → is_plain b ≡ true → b < 256
+unfolding is_plain
+plain_small b h = grind (arith, nat_tests)
+
+pub byte_text-plain : (b : ℕ) → is_plain b ≡ true → byte_text b ≡ b ∷ []
+unfolding byte_text
+byte_text-plain b h = cond-true _ _ _ h
+
+pub byte_text-other : (b : ℕ) → is_plain b ≡ false → byte_text b ≡ 37 ∷ digit_glyph true (b / 16 % 16) ∷ digit_glyph true (b % 16) ∷ []
+unfolding byte_text percent_encode_byte
+byte_text-other b h = cond-false _ _ _ h
+
+hex_is : (h x : ℕ) → hex_value h ≡ Some x → (h ≡ digit_glyph true x) × (x < 16)
+unfolding hex_value
+hex_is h x e =
+    ⊎_elim
+    (λ (p : ((leb 48 h && leb h 57) ≡ true) × (Some (h - 48) ≡ Some x)). let k : h - 48 ≡ x = cc in (grind (arith, nat_tests), grind (arith, nat_tests)))
+    (λ (p : ((leb 48 h && leb h 57) ≡ false) × (cond (leb 65 h && leb h 70) (Some (h - 55)) None ≡ Some x)).
+    let q = guard_some (leb 65 h && leb h 70) (Some (h - 55)) x p.1 in
+    let k : h - 55 ≡ x = cc in
+    (grind (arith, nat_tests), grind (arith, nat_tests)))
+    (if_some (leb 48 h && leb h 57) (Some (h - 48)) (cond (leb 65 h && leb h 70) (Some (h - 55)) None) x e)
+
+hex_glyph : (x : ℕ) → x < 16 → hex_value (digit_glyph true x) ≡ Some x
+unfolding hex_value
+hex_glyph x lt = grind (arith, nat_tests)
+
+escape_takes : (text : List ℕ) (x : ℕ × List ℕ) → escape_at text ≡ Some x → (37 ∷ text ≡ byte_text x.0 ++ x.1) × (x.0 < 256)
+unfolding escape_at
+escape_takes [] x e = absurd cc
+escape_takes (h ∷ []) x e = absurd cc
+escape_takes (h ∷ l ∷ text) x e =
+    let a = bind_some (hex_value h) (λ high. hex_value l >>= λ low. cond (is_plain (16 * high + low)) None (Some (16 * high + low, text))) x e in
+    let b = bind_some (hex_value l) (λ low. cond (is_plain (16 * a.0 + low)) None (Some (16 * a.0 + low, text))) x a.2 in
+    let g = unless_some (is_plain (16 * a.0 + b.0)) (Some (16 * a.0 + b.0, text)) x b.2 in
+    let made : (16 * a.0 + b.0, text) ≡ x = cc in
+    let hi = hex_is h a.0 a.1 in
+    let lo = hex_is l b.0 b.1 in
+    let high-is : (16 * a.0 + b.0) / 16 % 16 ≡ a.0 = omega (arith, hi.1, lo.1) in
+    let low-is : (16 * a.0 + b.0) % 16 ≡ b.0 = omega (arith, hi.1, lo.1) in
+    let spelled : 37 ∷ h ∷ l ∷ text ≡ byte_text (16 * a.0 + b.0) ++ text =
+    rw (byte_text-other (16 * a.0 + b.0) g.0, high-is, low-is) (ap (λ (n : ℕ). 37 ∷ n ∷ l ∷ text) hi.0 ∙ ap (λ (n : ℕ). 37 ∷ digit_glyph true a.0 ∷ n ∷ text) lo.0) in
+    subst (λ (y : ℕ × List ℕ). (37 ∷ h ∷ l ∷ text ≡ byte_text y.0 ++ y.1) × (y.0 < 256)) made (spelled, omega (arith, hi.1, lo.1))
+
+escape_again : (b : ℕ) (rest : List ℕ) → is_plain b ≡ false → b < 256 → escape_at (digit_glyph true (b / 16 % 16) ∷ digit_glyph true (b % 16) ∷ rest) ≡ Some (b, rest)
+unfolding escape_at
+escape_again b rest p lt =
+    let whole : 16 * (b / 16 % 16) + b % 16 ≡ b = omega arith in
+    rw (hex_glyph (b / 16 % 16) (omega arith), hex_glyph (b % 16) (omega arith)) (ap (λ (n : ℕ). cond (is_plain n) None (Some (n, rest))) whole ∙ cond-false _ _ _ p)
+
+byte_at-plain : (b : ℕ) (text : List ℕ) → is_plain b ≡ true → byte_at (b ∷ text) ≡ Some (b, text)
+unfolding byte_at
+byte_at-plain b text p = cond-true _ _ _ p
+
+byte_at-escape : (text : List ℕ) → byte_at (37 ∷ text) ≡ escape_at text
+unfolding byte_at is_plain
+byte_at-escape text = refl
+
+pub byte_takes : (text : List ℕ) (x : ℕ × List ℕ) → byte_at text ≡ Some x → (text ≡ byte_text x.0 ++ x.1) × (x.0 < 256)
+unfolding byte_at
+byte_takes [] x e = absurd cc
+byte_takes (b ∷ text) x e =
+    ⊎_elim
+    (λ (p : (is_plain b ≡ true) × (Some (b, text) ≡ Some x)).
+    let made : (b, text) ≡ x = cc in
+    subst (λ (y : ℕ × List ℕ). (b ∷ text ≡ byte_text y.0 ++ y.1) × (y.0 < 256)) made (rw (byte_text-plain b p.0) refl, plain_small b p.0))
+    (λ (p : (is_plain b ≡ false) × (cond (eqb b 37) (escape_at text) None ≡ Some x)).
+    let q = guard_some (eqb b 37) (escape_at text) x p.1 in
+    let is : b ≡ 37 = eqb-true _ _ q.0 in
+    let t = escape_takes text x q.1 in
+    (ap (λ (n : ℕ). n ∷ text) is ∙ t.0, t.1))
+    (if_some (is_plain b) (Some (b, text)) (cond (eqb b 37) (escape_at text) None) x e)
+
+pub byte_again : (b : ℕ) (rest : List ℕ) → b < 256 → byte_at (byte_text b ++ rest) ≡ Some (b, rest)
+byte_again b rest lt =
+    elim (is_plain b) as (λ v. is_plain b ≡ v → byte_at (byte_text b ++ rest) ≡ Some (b, rest)) [
+      | true ↦ λ p. rw (byte_text-plain b p) (byte_at-plain b rest p)
+      | false ↦ λ p. rw (byte_text-other b p) (byte_at-escape (digit_glyph true (b / 16 % 16) ∷ digit_glyph true (b % 16) ∷ rest) ∙ escape_again b rest p lt)
+    ] refl
+
+-- bytes that are read are spelled so
+pub bytes_takes : (n : ℕ) (text : List ℕ) → Took byte_text (λ b. b < 256) n text (bytes_at n text)
+bytes_takes n text = many_takes byte_at byte_text (λ b. b < 256) byte_takes n text
+
+-- bytes that are spelled are read, and then those behind them
+pub bytes_again : (bytes : List ℕ) (m n : ℕ) (rest : List ℕ) → AreBytes bytes → m ≡ length bytes + n → bytes_at m (bytes_text bytes ++ rest) ≡ ahead bytes (bytes_at n rest)
+bytes_again bytes m n rest are e =
+    many_again byte_at byte_text (λ b. b < 256) (λ _. Unit {0}) (λ b r lt _. byte_again b r lt) (λ _ _ _. tt) bytes m n rest are e tt

@@ -1,0 +1,11 @@
+pub mod Cases
+pub mod Reading
+pub mod Printing
+pub mod BytesLaws
+pub mod NamesLaws
+pub mod PathsLaws
+pub mod NumbersLaws
+pub mod FieldsReading
+pub mod RecordsLaws
+pub mod Changes
+pub mod Longest

@@ -1,0 +1,10 @@
+pub mod Terms
+pub mod Order
+pub mod Many
+pub mod Bytes
+pub mod Names
+pub mod Paths
+pub mod Numbers
+pub mod Records
+pub mod Lengths
+pub mod OrderLaws

@@ -1,0 +1,245 @@
+ghost use Rattle.std.specs.Prelude.{◌≡◌, ◌++◌, ◌<◌, take, length, Some, None, MatchOption, IfSome, OnOk, OnErr, IfOk, Err};
+ghost use Rattle.khepri_terms.specs.Lengths.{capped};
+ghost use Rattle.khepri_terms.specs.Names.{IsNameBytes, is_dots, name_text, dots_at, undotted, name_at, comp_text, comp_at};
+ghost use Rattle.khepri_terms.specs.Bytes.{is_plain, byte_text, bytes_text, hex_value, escape_at, byte_at, bytes_at};
+
+use crate::fault::TextFault;
+use crate::name::{Kind, Name};
+use percent_encoding::percent_encode_byte;
+use std::alloc::{AllocError, Global};
+
+#[tactic(auto, unfolding(crate::specs::Bytes::is_plain))]
+fn is_plain_byte(b: u8) -> bool
+    ensures { result ≡ is_plain b }
+{
+    matches!(b, b'a'..=b'z' | b'A'..=b'Z' | b'0'..=b'9' | b'-' | b'_' | b'.' | b'~')
+}
+
+// What an upper-case hexadecimal digit counts.
+#[tactic(auto, unfolding(crate::specs::Bytes::hex_value))]
+fn hex_digit(b: u8) -> Option<u8>
+    ensures value { result ≡ hex_value b }
+    ensures small { IfSome result (λ x. x < 16) }
+{
+    match b {
+        b'0'..=b'9' => Some(b - b'0'),
+        b'A'..=b'F' => Some(b - 55),
+        _ => None,
+    }
+}
+
+// The byte that two digits behind a `%` spell, and what is after them.
+#[tactic(auto, unfolding(crate::specs::Bytes::escape_at))]
+fn read_escape(text: &[u8]) -> Option<(u8, &[u8])>
+    ensures { MatchOption result (escape_at text.now ≡ None) (λ x. escape_at text.now ≡ Some (x.0, x.1.now)) }
+{
+    match text {
+        [high, low, rest @ ..] => {
+            let high = hex_digit(*high)?;
+            let low = hex_digit(*low)?;
+            let byte = 16 * high + low;
+            if is_plain_byte(byte) {
+                return None;
+            }
+            Some((byte, rest))
+        }
+        _ => None,
+    }
+}
+
+// The byte that is spelled at the front, and what is after it.
+#[tactic(auto, unfolding(crate::specs::Bytes::byte_at))]
+fn read_byte(text: &[u8]) -> Option<(u8, &[u8])>
+    ensures { MatchOption result (byte_at text.now ≡ None) (λ x. byte_at text.now ≡ Some (x.0, x.1.now)) }
+{
+    match text {
+        [b, rest @ ..] => {
+            if is_plain_byte(*b) {
+                return Some((*b, rest));
+            }
+            if *b == b'%' {
+                return read_escape(rest);
+            }
+            None
+        }
+        [] => None,
+    }
+}
+
+// As many bytes as are spelled at the front, at most `max`, and what is after them.
+pub(crate) fn read_bytes(
+    alloc: Global,
+    text: &[u8],
+    max: usize,
+) -> Result<(Vec<u8>, &[u8]), AllocError>
+    ensures { IfOk result (λ x. bytes_at max text.now ≡ (x.0.items, x.1.now)) }
+{
+    let mut bytes = Vec::new(alloc);
+    let mut rest = text;
+    'bytes: while bytes.len() < max {
+        match read_byte(rest) {
+            Some((byte, after)) => {
+                bytes.push(byte)?;
+                rest = after;
+            }
+            None => break 'bytes,
+        }
+    }
+    Ok((bytes, rest))
+}
+
+#[tactic(auto, unfolding(crate::specs::Bytes::byte_text))]
+fn print_byte(b: u8, out: &mut Vec<u8>) -> Result<(), AllocError>
+    ensures ok { OnOk result (out.new.items ≡ out.old.items ++ byte_text b) }
+    ensures front { take (length out.old.items) out.new.items ≡ out.old.items }
+{
+    if is_plain_byte(b) {
+        out.push(b)?;
+    } else {
+        out.extend_from_slice(percent_encode_byte(b).as_bytes())?;
+    }
+    Ok(())
+}
+
+// Appends the spelling of bytes.
+#[tactic(auto, using(crate::proofs::Printing::front_then))]
+pub(crate) fn print_bytes(bytes: &[u8], out: &mut Vec<u8>) -> Result<(), AllocError>
+    ensures ok { OnOk result (out.new.items ≡ out.old.items ++ bytes_text bytes.now) }
+    ensures front { take (length out.old.items) out.new.items ≡ out.old.items }
+{
+    for b in bytes {
+        print_byte(*b, out)?;
+    }
+    Ok(())
+}
+
+// The dots behind an escaped one, and what is after them.
+fn read_dots(alloc: Global, text: &[u8]) -> Result<(Vec<u8>, &[u8]), AllocError>
+    ensures value { IfOk result (λ x. dots_at text.now ≡ (x.0.items, x.1.now)) }
+    ensures name { IfOk result (λ x. IsNameBytes x.0.items) }
+{
+    match text {
+        [b'.', rest @ ..] => Ok((Vec::from_slice(alloc, b"..")?, rest)),
+        _ => Ok((Vec::from_slice(alloc, b".")?, text)),
+    }
+}
+
+// Whether these are `.` or `..`.
+fn is_dots(name: &[u8]) -> bool
+    ensures { result ≡ is_dots name.now }
+{
+    matches!(name, [b'.'] | [b'.', b'.'])
+}
+
+// The bytes of the name at the front that stands as it is, and what is after it.
+fn read_undotted(alloc: Global, text: &[u8]) -> Result<(Vec<u8>, &[u8]), TextFault>
+    ensures value { IfOk result (λ x. undotted (bytes_at 255 text.now) ≡ Some (x.0.items, x.1.now)) }
+    ensures name { IfOk result (λ x. IsNameBytes x.0.items) }
+    ensures bad { result ≡ Err TextFault.Bad → undotted (bytes_at 255 text.now) ≡ None }
+{
+    let (bytes, rest) = read_bytes(alloc, text, 255)?;
+    if bytes.len() == 0 || is_dots(bytes.as_slice()) {
+        return Err(TextFault::Bad);
+    }
+    Ok((bytes, rest))
+}
+
+// The bytes of the name at the front, and what is after it.
+#[tactic(auto, unfolding(crate::specs::Names::name_at))]
+pub(crate) fn read_name(alloc: Global, text: &[u8]) -> Result<(Vec<u8>, &[u8]), TextFault>
+    ensures value { IfOk result (λ x. name_at text.now ≡ Some (x.0.items, x.1.now)) }
+    ensures name { IfOk result (λ x. IsNameBytes x.0.items) }
+    ensures bad { result ≡ Err TextFault.Bad → name_at text.now ≡ None }
+{
+    match text {
+        [b'%', b'2', b'E', rest @ ..] => Ok(read_dots(alloc, rest)?),
+        _ => read_undotted(alloc, text),
+    }
+}
+
+// Appends the spelling of a name's bytes.
+#[tactic(auto, unfolding(crate::specs::Names::name_text))]
+pub(crate) fn print_name(name: &[u8], out: &mut Vec<u8>) -> Result<(), AllocError>
+    ensures ok { OnOk result (out.new.items ≡ out.old.items ++ name_text name.now) }
+    ensures front { take (length out.old.items) out.new.items ≡ out.old.items }
+{
+    match name {
+        [b'.'] => out.extend_from_slice(b"%2E")?,
+        [b'.', b'.'] => out.extend_from_slice(b"%2E.")?,
+        _ => print_bytes(name, out)?,
+    }
+    Ok(())
+}
+
+// The name of either kind at the front, and what is after it.
+#[tactic(auto, unfolding(crate::specs::Names::comp_at))]
+pub(crate) fn read_component(alloc: Global, text: &[u8]) -> Result<(Name, &[u8]), TextFault>
+    ensures value { IfOk result (λ x. comp_at text.now ≡ Some (x.0, x.1.now)) }
+    ensures bad { result ≡ Err TextFault.Bad → comp_at text.now ≡ None }
+{
+    match text {
+        [] => Err(TextFault::Bad),
+        [b':', rest @ ..] => {
+            let (bytes, rest) = read_name(alloc, rest)?;
+            Ok((Name::from_parts(alloc, Kind::Atom, bytes), rest))
+        }
+        [_, ..] => {
+            let (bytes, rest) = read_name(alloc, text)?;
+            Ok((Name::from_parts(alloc, Kind::Text, bytes), rest))
+        }
+    }
+}
+
+// Appends the spelling of a name of either kind.
+#[tactic(auto, using(crate::proofs::Printing::front_then))]
+pub(crate) fn print_component(name: &Name, out: &mut Vec<u8>) -> Result<(), AllocError>
+    ensures ok { OnOk result (out.new.items ≡ out.old.items ++ comp_text name.now) }
+    ensures front { take (length out.old.items) out.new.items ≡ out.old.items }
+{
+    match name.kind() {
+        Kind::Atom => out.push(b':')?,
+        Kind::Text => {}
+    }
+    print_name(name.bytes(), out)
+}
+
+#[tactic(auto, unfolding(crate::specs::Bytes::byte_text, percent_encoding::specs::Percent::percent_encode_byte))]
+fn byte_len(b: u8) -> usize
+    ensures { result ≡ length (byte_text b) }
+{
+    if is_plain_byte(b) { 1 } else { 3 }
+}
+
+// How long the spelling of bytes is.
+pub(crate) fn bytes_len(bytes: &[u8]) -> usize
+    ensures { result ≡ capped (length (bytes_text bytes.now)) }
+{
+    let mut len: usize = 0;
+    for b in bytes {
+        len = len.saturating_add(byte_len(*b));
+    }
+    len
+}
+
+// How long the spelling of a name's bytes is.
+#[tactic(auto, unfolding(crate::specs::Names::name_text))]
+pub(crate) fn name_len(name: &[u8]) -> usize
+    ensures { result ≡ capped (length (name_text name.now)) }
+{
+    match name {
+        [b'.'] => 3,
+        [b'.', b'.'] => 4,
+        _ => bytes_len(name),
+    }
+}
+
+// How long the spelling of a name of either kind is.
+pub(crate) fn component_len(name: &Name) -> usize
+    ensures { result ≡ capped (length (comp_text name.now)) }
+{
+    let mark: usize = match name.kind() {
+        Kind::Atom => 1,
+        Kind::Text => 0,
+    };
+    mark.saturating_add(name_len(name.bytes()))
+}
