@@ -1,0 +1,150 @@
+-- A session of one node is legal, rule by rule.
+use Rattle.std.proofs.Common.{◌≡◌, ◌<◌, inl, inr, ℕ, ◌+◌, ◌≤◌, List, [], ◌∷◌, length, refl, sym, ap, subst, ◌∙◌, arith, Option, Some}
+use Rattle.std.specs.FinMap.{get}
+use Rattle.khepri_types.specs.declared.limits.TheConstants.{MAX_NUMBER}
+use Rattle.khepri_types.specs.declared.command.Command.{Command}
+use Rattle.khepri_types.specs.declared.command.Command.TheVariants.{Put}
+use Rattle.khepri_types.specs.declared.command.Line.TheVariants as line
+use Rattle.khepri_types.specs.declared.out.EntryText.TheVariants as text
+use Rattle.khepri_types.specs.declared.out.OutLine.{OutLine}
+use Rattle.khepri_types.specs.declared.out.OutLine.TheVariants as out
+use Rattle.khepri_types.specs.Tree.{set, end_node}
+use Rattle.khepri_types.specs.Exec.{State, opening_state, exec_command, pv_of}
+use Rattle.khepri_types.specs.Spelled.{IsNumber, IsReply, HasSpelling}
+use Rattle.khepri_types.specs.Reading.{line_at}
+use Rattle.khepri_types.specs.History.{empty_opening, history, run_from}
+use Rattle.khepri_types.specs.Legal.{read_line, command_in, command_of, named, AtEach, Numbered, Carried, Explained, Answered, Awaited, Lost, Shown, Refused, Once, Rising, OneLeader, Legal}
+use Rattle.khepri_types.specs.Calm.{answers, calm}
+use Rattle.khepri_types.proofs.Trees.{set-at_path}
+use Rattle.khepri_types.proofs.Spelling.{reads_commands}
+use Rattle.khepri_types.proofs.Versions.{IsWithin, AllWithin, within-set, within-history}
+use Rattle.khepri_types.proofs.Outputs.{All-at, AtEach-all, entered-before, settled-before, entered-after}
+use Rattle.khepri_types.proofs.Amid.{Amid, entry_line, input-here, number-within, late, IsKept, kept}
+
+-- ---- what a reply holds
+
+-- what a command answers has a spelling
+pub reply-spelled : (S : State) (c : Command) (bound : ℕ) → AllWithin bound S.tree → IsNumber (bound + 1) → IsReply (exec_command S c).0
+reply-spelled S (Put p x) bound all small =
+    let is : get (set S.tree p x) p ≡ Some (end_node (get S.tree p) x) = set-at_path S.tree p x in
+    let w : IsWithin (bound + 1) (end_node (get S.tree p) x) = within-set bound S.tree p x all p (end_node (get S.tree p) x) is in
+    let v : pv_of (get (set S.tree p x) p) ≡ (end_node (get S.tree p) x).pv = ap pv_of is in
+    (omega (arith, v, w.pv_high, small), omega arith)
+
+tree_within : (input : List (List ℕ)) (before : List OutLine) (l : ℕ) (S : State) (rest : List (List ℕ)) → Amid input before l S rest → AllWithin (1 + S.position) S.tree
+tree_within input before l S rest a =
+    let by : AllWithin (1 + length (history before)) (run_from opening_state (history before)).tree = within-history (history before) in
+    let at : AllWithin (1 + length (history before)) S.tree = subst (λ (U : State). AllWithin (1 + length (history before)) U.tree) a.state by in
+    subst (λ (n : ℕ). AllWithin (1 + n) S.tree) (sym a.position) at
+
+-- ---- the rules
+
+spelled_kept : (input : List (List ℕ)) → IsNumber (length input + 1) → IsKept input (λ before x after. HasSpelling x)
+spelled_kept input small = record {
+  refused = λ before l S bytes rest r at. omega (arith, small, number-within input before l S bytes rest at.amid);
+  entry = λ before l S bytes rest k c at.
+      let l_small : IsNumber l = omega (arith, small, number-within input before l S bytes rest at.amid) in
+      let n_small : IsNumber (S.position + 1) = omega (arith, l_small, at.amid.few) in
+      (n_small, l_small, reads_commands bytes k c at.read);
+  reply = λ before l S bytes rest k c at.
+      let within : l ≤ length input = number-within input before l S bytes rest at.amid in
+      let l_small : IsNumber l = omega (arith, small, within) in
+      let n_small : IsNumber (S.position + 1) = omega (arith, l_small, at.amid.few) in
+      let v_small : IsNumber ((1 + S.position) + 1) = omega (arith, small, within, at.amid.few) in
+      (l_small, n_small, reply-spelled S c (1 + S.position) (tree_within input before l S (bytes ∷ rest) at.amid) v_small);
+}
+
+numbered_kept : (input : List (List ℕ)) → IsKept input (Numbered empty_opening)
+numbered_kept input = record {
+  refused = λ before l S bytes rest r at. tt;
+  entry = λ before l S bytes rest k c at. omega (arith, at.amid.position);
+  reply = λ before l S bytes rest k c at. tt;
+}
+
+command-here : (input : List (List ℕ)) (before : List OutLine) (l : ℕ) (S : State) (bytes : List ℕ) (rest : List (List ℕ)) (k : ℕ) (c : Command) → Amid input before l S (bytes ∷ rest)
+    → line_at bytes ≡ Some (line.Command k c) → command_of input l ≡ Some c
+command-here input before l S bytes rest k c a read = ap (λ (o : Option (List ℕ)). command_in (read_line o)) (input-here input before l S bytes rest a) ∙ ap command_in read
+
+carried_kept : (input : List (List ℕ)) → IsKept input (Carried input)
+carried_kept input = record {
+  refused = λ before l S bytes rest r at. tt;
+  entry = λ before l S bytes rest k c at. λ pos. record {
+    command = (c, command-here input before l S bytes rest k c at.amid at.read, refl);
+    not_before = entered-before l before at.amid.early;
+    not_after = (λ e. omega arith, entered-after l (answers (l + 1) (exec_command S c).1 rest) pos (late rest (l + 1) (exec_command S c).1));
+  };
+  reply = λ before l S bytes rest k c at. tt;
+}
+
+explained_kept : (input : List (List ℕ)) → IsKept input (Explained empty_opening)
+explained_kept input = record {
+  refused = λ before l S bytes rest r at. tt;
+  entry = λ before l S bytes rest k c at. λ z. absurd (omega (arith, z, at.amid.number));
+  reply = λ before l S bytes rest k c at. tt;
+}
+
+answered_kept : (input : List (List ℕ)) → IsKept input (Answered empty_opening)
+answered_kept input = record {
+  refused = λ before l S bytes rest r at. tt;
+  entry = λ before l S bytes rest k c at. ((exec_command S c).0, ap (λ (U : State). Some (exec_command U c).0) at.amid.state, refl);
+  reply = λ before l S bytes rest k c at. record { front = before; entry = text.Command c; is = refl; answers = λ noop. noop };
+}
+
+awaited_kept : (input : List (List ℕ)) → IsKept input (Awaited empty_opening input)
+awaited_kept input = record { refused = λ before l S bytes rest r at. tt; entry = λ before l S bytes rest k c at. tt; reply = λ before l S bytes rest k c at. tt }
+
+lost_kept : (input : List (List ℕ)) → IsKept input (Lost empty_opening input)
+lost_kept input = record { refused = λ before l S bytes rest r at. tt; entry = λ before l S bytes rest k c at. tt; reply = λ before l S bytes rest k c at. tt }
+
+shown_kept : (input : List (List ℕ)) → IsKept input (Shown empty_opening input)
+shown_kept input = record { refused = λ before l S bytes rest r at. tt; entry = λ before l S bytes rest k c at. tt; reply = λ before l S bytes rest k c at. tt }
+
+refused_kept : (input : List (List ℕ)) → IsKept input (Refused input)
+refused_kept input = record { refused = λ before l S bytes rest r at. at.may; entry = λ before l S bytes rest k c at. tt; reply = λ before l S bytes rest k c at. tt }
+
+once_kept : (input : List (List ℕ)) → IsKept input Once
+once_kept input = record {
+  refused = λ before l S bytes rest r at. λ pos. settled-before l before at.amid.early;
+  entry = λ before l S bytes rest k c at. λ pos. settled-before l before at.amid.early;
+  reply = λ before l S bytes rest k c at. λ pos. absurd (omega arith);
+}
+
+rising_kept : (input : List (List ℕ)) → IsKept input Rising
+rising_kept input = record {
+  refused = λ before l S bytes rest r at. λ pos. inr at.amid.early;
+  entry = λ before l S bytes rest k c at. λ pos. inr at.amid.early;
+  reply = λ before l S bytes rest k c at. λ pos. inl (λ nowhere. All-at (λ (y : OutLine). named y ≡ l → ⊥) before (entry_line l S c) [] nowhere refl);
+}
+
+one_leader_kept : (input : List (List ℕ)) → IsKept input OneLeader
+one_leader_kept input = record { refused = λ before l S bytes rest r at. tt; entry = λ before l S bytes rest k c at. tt; reply = λ before l S bytes rest k c at. tt }
+
+-- ---- the whole
+
+calm-is : (input : List (List ℕ)) → calm input ≡ out.Leads 1 1 ∷ answers 1 opening_state input
+unfolding calm
+calm-is input = refl
+
+amid_opening : (input : List (List ℕ)) → Amid input (out.Leads 1 1 ∷ []) 1 opening_state input
+amid_opening input = record { done = []; whole = refl; number = refl; state = refl; position = refl; few = omega arith; early = (omega arith, tt) }
+
+-- a rule that holds at the first line and is kept holds throughout
+throughout : (input : List (List ℕ)) (R : List OutLine → OutLine → List OutLine → Type 0) → R [] (out.Leads 1 1) (answers 1 opening_state input) → IsKept input R → AtEach R [] (calm input)
+throughout input R first rule = subst (AtEach R []) (sym (calm-is input)) (first, kept input R rule input (out.Leads 1 1 ∷ []) 1 opening_state (amid_opening input))
+
+-- what a session of one node writes is legal
+pub calm-legal : (input : List (List ℕ)) → length input < MAX_NUMBER → Legal empty_opening input (calm input)
+calm-legal input few = record {
+  spelled = AtEach-all HasSpelling [] (calm input) (throughout input (λ before x after. HasSpelling x) ((omega arith, omega arith), omega arith) (spelled_kept input (omega (arith, few))));
+  numbered = throughout input (Numbered empty_opening) tt (numbered_kept input);
+  carried = throughout input (Carried input) tt (carried_kept input);
+  explained = throughout input (Explained empty_opening) tt (explained_kept input);
+  answered = throughout input (Answered empty_opening) tt (answered_kept input);
+  awaited = throughout input (Awaited empty_opening input) tt (awaited_kept input);
+  lost = throughout input (Lost empty_opening input) tt (lost_kept input);
+  shown = throughout input (Shown empty_opening input) tt (shown_kept input);
+  refused = throughout input (Refused input) tt (refused_kept input);
+  once = throughout input Once (λ pos. absurd (omega arith)) (once_kept input);
+  rising = throughout input Rising (λ pos. absurd (omega arith)) (rising_kept input);
+  one_leader = throughout input OneLeader tt (one_leader_kept input);
+}

@@ -1,0 +1,9 @@
+pub mod Order
+pub mod Trees
+pub mod Standing
+pub mod Versions
+pub mod Answering
+pub mod Outputs
+pub mod Amid
+pub mod Legality
+pub mod Spelling

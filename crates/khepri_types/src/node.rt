@@ -1,0 +1,50 @@
+// A node and its payload.
+ghost use Rattle.std.specs.Prelude.{◌≡◌, IfOk};
+
+use khepri_terms::Rec;
+use std::alloc::AllocError;
+
+/// What a node carries.
+#[derive(Debug, Drop)]
+pub enum Payload {
+    Empty,
+    Fields(Rec),
+}
+
+impl Payload {
+    ghost use Rattle.khepri_types.specs.Tree.{same_payload};
+
+    pub fn copy(&self) -> Result<Payload, AllocError>
+        ensures { IfOk result (λ p. p ≡ self.now) }
+    {
+        match self {
+            Payload::Empty => Ok(Payload::Empty),
+            Payload::Fields(rec) => Ok(Payload::Fields(rec.copy()?)),
+        }
+    }
+
+    pub fn is_same(&self, other: &Payload) -> bool
+        ensures { result ≡ same_payload self.now other.now }
+    {
+        match self {
+            Payload::Empty => match other {
+                Payload::Empty => true,
+                Payload::Fields(_) => false,
+            },
+            Payload::Fields(a) => match other {
+                Payload::Empty => false,
+                Payload::Fields(b) => a.is_same(b),
+            },
+        }
+    }
+}
+
+/// A node of the tree.
+#[derive(Debug, Drop)]
+pub struct Node {
+    pub payload: Payload,
+    /// The payload version: 1 where the node was made, and one more at each payload that differs. At 2^64 - 1 it stays.
+    pub pv: u64,
+    /// The child-list version: 1 where the node was made, and one more at each round in which a child comes or goes. At 2^64 - 1 it stays.
+    pub cv: u64,
+}
