@@ -7,15 +7,18 @@ mod bytes;
 mod fault;
 pub mod laws;
 mod name;
-mod number;
+pub mod numbers;
 mod path;
 mod rec;
 mod scalar;
-mod spelled;
+pub mod texts;
 
 pub use bytes::Bytes;
 pub use fault::{NameFault, RecFault, TextFault};
-pub use name::{Kind, Name};
-pub use path::Path;
-pub use rec::{Field, Rec};
+pub use name::{Kind, MAX_NAME, Name};
+pub use path::{MAX_PATH_TEXT, Path};
+pub use rec::{Field, MAX_FIELDS, MAX_REC_TEXT, Rec};
 pub use scalar::Scalar;
+
+#[cfg(test)]
+mod tests;

@@ -33,6 +33,9 @@ impl Kind {
     }
 }
 
+/// How many bytes a name has at most.
+pub const MAX_NAME: usize = 255;
+
 /// A kind and 1 to 255 bytes.
 #[derive(Debug, Drop)]
 pub struct Name {
@@ -61,7 +64,7 @@ impl Name {
         if bytes.len() == 0 {
             return Err(NameFault::Empty);
         }
-        if bytes.len() > 255 {
+        if bytes.len() > MAX_NAME {
             return Err(NameFault::Long);
         }
         let bytes = Bytes::from_slice(alloc, bytes)?;

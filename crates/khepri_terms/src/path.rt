@@ -13,11 +13,17 @@ ghost use Rattle.std.specs.Hash as fed;
 
 use crate::fault::TextFault;
 use crate::name::Name;
-use crate::spelled::{component_len, print_component, read_component};
+use crate::texts::{component_len, print_component, read_component};
 use std::alloc::{AllocError, Global};
 use std::cmp::Ordering;
 use std::hash::{Hash, Hasher};
 use std::marker::Model;
+
+/// How many bytes of text a path has at most.
+pub const MAX_PATH_TEXT: usize = 1024;
+
+// How many names 1,024 bytes of text have at most.
+const MAX_PATH_NAMES: usize = 512;
 
 /// A list of names; the root is the empty one.
 #[derive(Debug, Drop)]
@@ -230,7 +236,7 @@ fn read_names(alloc: Global, text: &[u8]) -> Result<(Vec<Name>, &[u8]), AllocErr
 {
     let mut names = Vec::new(alloc);
     let mut rest = text;
-    'names: while names.len() < 512 {
+    'names: while names.len() < MAX_PATH_NAMES {
         match read_step(alloc, rest) {
             Ok((name, after)) => {
                 names.push(name)?;
@@ -272,7 +278,7 @@ fn read_path(alloc: Global, text: &[u8]) -> Result<(Path, &[u8]), TextFault>
 {
     match text {
         [b'/', after @ ..] => {
-            let window = first_bytes(text, 1024);
+            let window = first_bytes(text, MAX_PATH_TEXT);
             let (names, left) = read_names(alloc, window)?;
             if names.len() == 0 {
                 return Ok((Path::root(alloc), after));

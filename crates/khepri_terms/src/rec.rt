@@ -13,7 +13,7 @@ use crate::bytes::Bytes;
 use crate::fault::{RecFault, TextFault};
 use crate::name::{Kind, Name};
 use crate::scalar::Scalar;
-use crate::spelled::{name_len, print_name, read_name};
+use crate::texts::{name_len, print_name, read_name};
 use std::alloc::{AllocError, Global};
 use std::cmp::Ordering;
 use std::hash::{Hash, Hasher};
@@ -330,7 +330,7 @@ fn read_fields(alloc: Global, text: &[u8]) -> Result<(Vec<Field>, &[u8]), TextFa
 {
     let mut fields = Vec::new(alloc);
     let mut rest = text;
-    'fields: while fields.len() < 64 {
+    'fields: while fields.len() < MAX_FIELDS {
         let (field, after) = read_field(alloc, rest)?;
         fields.push(field)?;
         let (is_last, next) = read_end(after)?;

@@ -10,8 +10,8 @@ ghost use Rattle.khepri_terms.specs.Records.{IsValue, scalar_text, scalar_at};
 
 use crate::bytes::Bytes;
 use crate::fault::TextFault;
-use crate::number::read_int;
-use crate::spelled::{bytes_len, print_bytes, read_bytes};
+use crate::numbers::read_int;
+use crate::texts::{bytes_len, print_bytes, read_bytes};
 use itoa::Buffer;
 use std::alloc::{AllocError, Global};
 use std::cmp::Ordering;
@@ -44,9 +44,9 @@ impl Scalar {
         }
     }
 
-    // Appends the spelling.
+    /// Appends the spelling; after want of memory what was there before still stands at the front.
     #[tactic(auto, unfolding(crate::specs::Records::scalar_text), using(crate::proofs::Printing::front_then))]
-    pub(crate) fn append(&self, out: &mut Vec<u8>) -> Result<(), AllocError>
+    pub fn append(&self, out: &mut Vec<u8>) -> Result<(), AllocError>
         ensures ok { OnOk result (out.new.items ≡ out.old.items ++ scalar_text self.now) }
         ensures front { take (length out.old.items) out.new.items ≡ out.old.items }
     {
@@ -62,9 +62,9 @@ impl Scalar {
         }
     }
 
-    // How long the spelling is.
+    /// How long the spelling is, at most `usize::MAX`.
     #[tactic(auto, unfolding(crate::specs::Records::scalar_text))]
-    pub(crate) fn text_len(&self) -> usize
+    pub fn text_len(&self) -> usize
         ensures len { result ≡ capped (length (scalar_text self.now)) }
         ensures value { IsValue self.now }
     {

@@ -1,6 +1,6 @@
 use Rattle.std.proofs.Common.{◌≡◌, ◌≤◌, length}
 use Rattle.khepri_terms.specs.Numbers.{number_from}
-use Rattle.khepri_terms.proofs.number.number_on.Given as goal
+use Rattle.khepri_terms.proofs.numbers.number_on.Given as goal
 
 abbrev pub invariant-digits : goal.invariant-digits
 invariant-digits l = record {

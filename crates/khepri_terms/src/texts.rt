@@ -1,3 +1,6 @@
+//! The forms that larger texts are made of: bytes, names and names of either kind. A reader gives the value at the
+//! front and what is after it, a printer appends the spelling, and after want of memory what was there before still
+//! stands at the front.
 ghost use Rattle.std.specs.Prelude.{◌≡◌, ◌++◌, ◌<◌, take, length, Some, None, MatchOption, IfSome, OnOk, OnErr, IfOk, Err};
 ghost use Rattle.khepri_terms.specs.Lengths.{capped};
 ghost use Rattle.khepri_terms.specs.Names.{IsNameBytes, is_dots, name_text, dots_at, undotted, name_at, comp_text, comp_at};
@@ -66,12 +69,8 @@ fn read_byte(text: &[u8]) -> Option<(u8, &[u8])>
     }
 }
 
-// As many bytes as are spelled at the front, at most `max`, and what is after them.
-pub(crate) fn read_bytes(
-    alloc: Global,
-    text: &[u8],
-    max: usize,
-) -> Result<(Vec<u8>, &[u8]), AllocError>
+/// As many bytes as are spelled at the front, at most `max`, and what is after them.
+pub fn read_bytes(alloc: Global, text: &[u8], max: usize) -> Result<(Vec<u8>, &[u8]), AllocError>
     ensures { IfOk result (λ x. bytes_at max text.now ≡ (x.0.items, x.1.now)) }
 {
     let mut bytes = Vec::new(alloc);
@@ -101,9 +100,9 @@ fn print_byte(b: u8, out: &mut Vec<u8>) -> Result<(), AllocError>
     Ok(())
 }
 
-// Appends the spelling of bytes.
+/// Appends the spelling of bytes.
 #[tactic(auto, using(crate::proofs::Printing::front_then))]
-pub(crate) fn print_bytes(bytes: &[u8], out: &mut Vec<u8>) -> Result<(), AllocError>
+pub fn print_bytes(bytes: &[u8], out: &mut Vec<u8>) -> Result<(), AllocError>
     ensures ok { OnOk result (out.new.items ≡ out.old.items ++ bytes_text bytes.now) }
     ensures front { take (length out.old.items) out.new.items ≡ out.old.items }
 {
@@ -144,9 +143,9 @@ fn read_undotted(alloc: Global, text: &[u8]) -> Result<(Vec<u8>, &[u8]), TextFau
     Ok((bytes, rest))
 }
 
-// The bytes of the name at the front, and what is after it.
+/// The bytes of the longest name at the front, and what is after it.
 #[tactic(auto, unfolding(crate::specs::Names::name_at))]
-pub(crate) fn read_name(alloc: Global, text: &[u8]) -> Result<(Vec<u8>, &[u8]), TextFault>
+pub fn read_name(alloc: Global, text: &[u8]) -> Result<(Vec<u8>, &[u8]), TextFault>
     ensures value { IfOk result (λ x. name_at text.now ≡ Some (x.0.items, x.1.now)) }
     ensures name { IfOk result (λ x. IsNameBytes x.0.items) }
     ensures bad { result ≡ Err TextFault.Bad → name_at text.now ≡ None }
@@ -157,9 +156,9 @@ pub(crate) fn read_name(alloc: Global, text: &[u8]) -> Result<(Vec<u8>, &[u8]), 
     }
 }
 
-// Appends the spelling of a name's bytes.
+/// Appends the spelling of a name's bytes.
 #[tactic(auto, unfolding(crate::specs::Names::name_text))]
-pub(crate) fn print_name(name: &[u8], out: &mut Vec<u8>) -> Result<(), AllocError>
+pub fn print_name(name: &[u8], out: &mut Vec<u8>) -> Result<(), AllocError>
     ensures ok { OnOk result (out.new.items ≡ out.old.items ++ name_text name.now) }
     ensures front { take (length out.old.items) out.new.items ≡ out.old.items }
 {
@@ -171,9 +170,9 @@ pub(crate) fn print_name(name: &[u8], out: &mut Vec<u8>) -> Result<(), AllocErro
     Ok(())
 }
 
-// The name of either kind at the front, and what is after it.
+/// The longest name of either kind at the front, and what is after it.
 #[tactic(auto, unfolding(crate::specs::Names::comp_at))]
-pub(crate) fn read_component(alloc: Global, text: &[u8]) -> Result<(Name, &[u8]), TextFault>
+pub fn read_component(alloc: Global, text: &[u8]) -> Result<(Name, &[u8]), TextFault>
     ensures value { IfOk result (λ x. comp_at text.now ≡ Some (x.0, x.1.now)) }
     ensures bad { result ≡ Err TextFault.Bad → comp_at text.now ≡ None }
 {
@@ -190,9 +189,9 @@ pub(crate) fn read_component(alloc: Global, text: &[u8]) -> Result<(Name, &[u8])
     }
 }
 
-// Appends the spelling of a name of either kind.
+/// Appends the spelling of a name of either kind.
 #[tactic(auto, using(crate::proofs::Printing::front_then))]
-pub(crate) fn print_component(name: &Name, out: &mut Vec<u8>) -> Result<(), AllocError>
+pub fn print_component(name: &Name, out: &mut Vec<u8>) -> Result<(), AllocError>
     ensures ok { OnOk result (out.new.items ≡ out.old.items ++ comp_text name.now) }
     ensures front { take (length out.old.items) out.new.items ≡ out.old.items }
 {
@@ -210,8 +209,8 @@ fn byte_len(b: u8) -> usize
     if is_plain_byte(b) { 1 } else { 3 }
 }
 
-// How long the spelling of bytes is.
-pub(crate) fn bytes_len(bytes: &[u8]) -> usize
+/// How long the spelling of bytes is, at most `usize::MAX`.
+pub fn bytes_len(bytes: &[u8]) -> usize
     ensures { result ≡ capped (length (bytes_text bytes.now)) }
 {
     let mut len: usize = 0;
@@ -221,9 +220,9 @@ pub(crate) fn bytes_len(bytes: &[u8]) -> usize
     len
 }
 
-// How long the spelling of a name's bytes is.
+/// How long the spelling of a name's bytes is, at most `usize::MAX`.
 #[tactic(auto, unfolding(crate::specs::Names::name_text))]
-pub(crate) fn name_len(name: &[u8]) -> usize
+pub fn name_len(name: &[u8]) -> usize
     ensures { result ≡ capped (length (name_text name.now)) }
 {
     match name {
@@ -233,8 +232,8 @@ pub(crate) fn name_len(name: &[u8]) -> usize
     }
 }
 
-// How long the spelling of a name of either kind is.
-pub(crate) fn component_len(name: &Name) -> usize
+/// How long the spelling of a name of either kind is, at most `usize::MAX`.
+pub fn component_len(name: &Name) -> usize
     ensures { result ≡ capped (length (comp_text name.now)) }
 {
     let mark: usize = match name.kind() {

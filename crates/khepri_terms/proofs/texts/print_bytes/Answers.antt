@@ -1,7 +1,7 @@
 use Rattle.std.proofs.Common.{take}
 use Rattle.khepri_terms.specs.Bytes.{bytes_text}
 use Rattle.khepri_terms.proofs.Printing.{front_of}
-use Rattle.khepri_terms.proofs.spelled.print_bytes.Goals as goal
+use Rattle.khepri_terms.proofs.texts.print_bytes.Goals as goal
 
 pub returns-in_err-print_byte-clause-front : goal.returns-in_err-print_byte-clause-front
 returns-in_err-print_byte-clause-front c =

@@ -1,6 +1,6 @@
 use Rattle.std.proofs.Common.{◌≡◌, ◌++◌, take}
 use Rattle.khepri_terms.specs.Bytes.{bytes_text}
-use Rattle.khepri_terms.proofs.spelled.print_bytes.Given as goal
+use Rattle.khepri_terms.proofs.texts.print_bytes.Given as goal
 
 abbrev pub invariant-loop-b : goal.invariant-loop-b
 invariant-loop-b l = l.out.items ≡ l.fn.out.items ++ bytes_text (take l.b-index l.bytes)

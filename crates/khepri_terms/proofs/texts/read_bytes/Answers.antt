@@ -1,8 +1,8 @@
 use Rattle.std.proofs.Common.{◌-◌, length, arith}
 use Rattle.khepri_terms.specs.Bytes.{byte_at, bytes_at}
 use Rattle.khepri_terms.proofs.Reading.{many_on, many_done, many-end, many-full}
-use Rattle.khepri_terms.proofs.spelled.read_bytes.Goals as goal
-use Rattle.khepri_terms.proofs.spelled.read_bytes.Goals.{else-bytes-test, then-bytes-test+in-None}
+use Rattle.khepri_terms.proofs.texts.read_bytes.Goals as goal
+use Rattle.khepri_terms.proofs.texts.read_bytes.Goals.{else-bytes-test, then-bytes-test+in-None}
 
 pub bytes-preserved : goal.bytes-preserved
 bytes-preserved c = record {

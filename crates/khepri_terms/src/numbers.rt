@@ -1,5 +1,10 @@
-ghost use Rattle.std.specs.Prelude.{◌≡◌, Some, None, MatchOption, IfSome, ◌≤◌};
+//! The forms of numbers.
+ghost use Rattle.std.specs.Prelude.{◌≡◌, ◌++◌, OnOk, OnErr, decimal, Some, None, MatchOption, IfSome, ◌≤◌};
+ghost use Rattle.std.specs.Fmt.{signed_decimal};
 ghost use Rattle.khepri_terms.specs.Numbers.{number_from, number_at, int_at};
+
+use itoa::Buffer;
+use std::alloc::AllocError;
 
 // The number so far and the digits at the front, none past the greatest, and what is after them.
 #[tactic(auto, unfolding(crate::specs::Numbers::number_from))]
@@ -21,9 +26,9 @@ fn number_on(text: &[u8], start: u64, greatest: u64) -> Option<(u64, &[u8])>
     Some((number, rest))
 }
 
-// The number at the front, none past the greatest, and what is after it.
+/// The number at the front, none past `greatest`, and what is after it.
 #[tactic(auto, unfolding(crate::specs::Numbers::number_at))]
-pub(crate) fn read_number(text: &[u8], greatest: u64) -> Option<(u64, &[u8])>
+pub fn read_number(text: &[u8], greatest: u64) -> Option<(u64, &[u8])>
     requires { 9 ≤ greatest }
     ensures high { IfSome result (λ x. x.0 ≤ greatest) }
     ensures value { MatchOption result (number_at greatest text.now ≡ None) (λ x. number_at greatest text.now ≡ Some (x.0, x.1.now)) }
@@ -35,9 +40,9 @@ pub(crate) fn read_number(text: &[u8], greatest: u64) -> Option<(u64, &[u8])>
     }
 }
 
-// The integer at the front, and what is after it.
+/// The integer of 64 bits at the front, and what is after it.
 #[tactic(auto, unfolding(crate::specs::Numbers::int_at))]
-pub(crate) fn read_int(text: &[u8]) -> Option<(i64, &[u8])>
+pub fn read_int(text: &[u8]) -> Option<(i64, &[u8])>
     ensures { MatchOption result (int_at text.now ≡ None) (λ x. int_at text.now ≡ Some (x.0, x.1.now)) }
 {
     match text {
@@ -54,4 +59,22 @@ pub(crate) fn read_int(text: &[u8]) -> Option<(i64, &[u8])>
         }
         [] => None,
     }
+}
+
+/// Appends a number.
+pub fn print_number(number: u64, out: &mut Vec<u8>) -> Result<(), AllocError>
+    ensures ok { OnOk result (out.new.items ≡ out.old.items ++ decimal number) }
+    ensures err { OnErr result (out.new.items ≡ out.old.items) }
+{
+    let mut digits = Buffer::new();
+    out.extend_from_slice(digits.format(number).as_bytes())
+}
+
+/// Appends an integer.
+pub fn print_int(number: i64, out: &mut Vec<u8>) -> Result<(), AllocError>
+    ensures ok { OnOk result (out.new.items ≡ out.old.items ++ signed_decimal number) }
+    ensures err { OnErr result (out.new.items ≡ out.old.items) }
+{
+    let mut digits = Buffer::new();
+    out.extend_from_slice(digits.format(number).as_bytes())
 }

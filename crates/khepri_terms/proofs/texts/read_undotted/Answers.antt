@@ -2,7 +2,7 @@ use Rattle.std.proofs.Common.{ℕ, List, ◌<◌, subst, arith}
 use Rattle.khepri_terms.specs.Bytes.{byte_text, bytes_at}
 use Rattle.khepri_terms.proofs.Reading.{Took}
 use Rattle.khepri_terms.proofs.BytesLaws.{bytes_takes}
-use Rattle.khepri_terms.proofs.spelled.read_undotted.Goals as goal
+use Rattle.khepri_terms.proofs.texts.read_undotted.Goals as goal
 
 pub returns-clause-name : goal.returns-clause-name
 returns-clause-name c =
