@@ -5,7 +5,7 @@ ghost use Rattle.std.specs.Ordering.{as_partial_cmp};
 ghost use Rattle.std.specs.Hash as fed;
 ghost use Rattle.khepri_terms.specs.Order.{field_cmp, field_eq, field_fed, rec_cmp, rec_eq};
 ghost use Rattle.khepri_terms.specs.OrderLaws.{field_equivalence, field_total, field_ties, field_feeds, rec_equivalence, rec_total, rec_ties, rec_feeds};
-ghost use Rattle.khepri_terms.specs.Records.{field_text, fields_text, rec_text, keys_rise, value_at, field_at, end_at, fields_at, inner_at, opened_at, rec_at, field_of, with_field, is_small, OnlyRec, BeginsNoRec};
+ghost use Rattle.khepri_terms.specs.Records.{field_text, fields_text, rec_text, keys_rise, value_at, field_at, end_at, fields_at, inner_at, opened_at, rec_at, field_of, with_field, is_small, IsRec, OnlyRec, BeginsNoRec};
 ghost use Rattle.khepri_terms.specs.Lengths.{capped};
 ghost use Rattle.std.specs.Option.{option_copied};
 
@@ -145,7 +145,8 @@ impl Rec {
 
     /// How many fields there are.
     pub fn len(&self) -> usize
-        ensures { result ≡ length self.now }
+        ensures len { result ≡ length self.now }
+        ensures is { IsRec self.now }
     {
         self.fields.len()
     }

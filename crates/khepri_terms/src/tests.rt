@@ -3,7 +3,6 @@ use crate::numbers::{print_int, print_number, read_int, read_number};
 use crate::texts::*;
 use std::alloc::{AllocError, Global};
 use std::cmp::Ordering;
-use std::process::Abort;
 use std::test::Fail;
 
 // A text, and the longest path that begins there, or `!` where none does.
@@ -177,6 +176,49 @@ fn long_path(alloc: Global, names: usize) -> Result<Vec<u8>, AllocError> {
     Ok(out)
 }
 
+fn path_of(alloc: Global, text: &[u8]) -> Result<Path, TextFault> {
+    let (path, _) = Path::read(alloc, text)?;
+    Ok(path)
+}
+
+fn rec_of(alloc: Global, text: &[u8]) -> Result<Rec, TextFault> {
+    let (rec, _) = Rec::read(alloc, text)?;
+    Ok(rec)
+}
+
+fn path_end(alloc: Global, text: &[u8]) -> Result<(usize, usize), TextFault> {
+    let (path, end) = Path::read_at(alloc, text, 0)?;
+    Ok((path.len(), end))
+}
+
+fn rec_end(alloc: Global, text: &[u8], at: usize) -> Result<(usize, usize), TextFault> {
+    if at > text.len() {
+        return Err(TextFault::Bad);
+    }
+    let (rec, end) = Rec::read_at(alloc, text, at)?;
+    Ok((rec.len(), end))
+}
+
+// The record with one more Int.
+fn with_int(alloc: Global, rec: &Rec, key: &[u8]) -> Result<Rec, RecFault> {
+    match Name::new(alloc, Kind::Text, key) {
+        Ok(key) => rec.with(&key, &Scalar::Int(1)),
+        Err(_) => Err(RecFault::NoMemory),
+    }
+}
+
+// The record of one field `k` with as many letters.
+fn one_text(alloc: Global, count: usize) -> Result<bool, Fail> {
+    let text = Scalar::Text(Bytes::from_vec(alloc, letters(alloc, count)?));
+    let key = Name::new(alloc, Kind::Text, b"k")?;
+    let empty = rec_of(alloc, b"{}")?;
+    match empty.with(&key, &text) {
+        Ok(_) => Ok(true),
+        Err(RecFault::Full) => Ok(false),
+        Err(RecFault::NoMemory) => Err(Fail::from(AllocError)),
+    }
+}
+
 #[test]
 fn names_at_their_limits(rt: HostRuntime) -> Result<(), Fail> {
     let alloc = rt.alloc();
@@ -191,6 +233,13 @@ fn names_at_their_limits(rt: HostRuntime) -> Result<(), Fail> {
             Err(NameFault::Long)
         )
     );
+    Ok(())
+}
+
+#[test]
+fn names_in_order(rt: HostRuntime) -> Result<(), Fail> {
+    let alloc = rt.alloc();
+    let a = Name::new(alloc, Kind::Text, b"a")?;
     let atom = Name::new(alloc, Kind::Atom, b"z")?;
     assert!(rt; atom.compare(&a) == Ordering::Less);
     assert!(rt; a.copy()?.is_same(&a));
@@ -202,58 +251,67 @@ fn paths_at_their_limits(rt: HostRuntime) -> Result<(), Fail> {
     let alloc = rt.alloc();
     let mut text = Vec::from_slice(alloc, b"/")?;
     text.extend_from_slice(letters(alloc, 300)?.as_slice())?;
-    let (path, end) = Path::read_at(alloc, text.as_slice(), 0)?;
-    assert_eq!(rt; end, 256);
-    assert_eq!(rt; path.len(), 1);
+    assert_eq!(rt; path_end(alloc, text.as_slice())?, (1, 256));
     let many = long_path(alloc, 5)?;
-    let (path, end) = Path::read_at(alloc, many.as_slice(), 0)?;
-    assert_eq!(rt; end, 1024);
-    assert_eq!(rt; path.len(), 5);
-    assert_eq!(rt; path.text_len(), 1024);
-    let child = path.child(&Name::new(alloc, Kind::Text, b".")?)?;
-    assert_eq!(rt; child.text_len(), 1028);
-    assert!(rt; child.front(5)?.is_same(&path));
-    assert!(rt; child.compare_front(5, &path) == Ordering::Equal);
-    assert!(rt; child.compare(&path) == Ordering::Greater);
-    assert!(rt; child.copy()?.is_same(&child));
-    assert!(rt; Path::root(alloc).compare(&path) == Ordering::Less);
+    assert_eq!(rt; path_end(alloc, many.as_slice())?, (5, 1024));
     Ok(())
 }
 
 #[test]
-fn records_at_their_limits(rt: HostRuntime) -> Result<(), Fail> {
+fn paths_grow(rt: HostRuntime) -> Result<(), Fail> {
     let alloc = rt.alloc();
-    let (mut rec, _) = Rec::read(alloc, b"{}")?;
+    let path = path_of(alloc, b"/a")?;
+    let child = path.child(&Name::new(alloc, Kind::Text, b".")?)?;
+    assert_eq!(rt; child.text_len(), 6);
+    assert!(rt; child.front(1)?.is_same(&path));
+    Ok(())
+}
+
+#[test]
+fn paths_in_order(rt: HostRuntime) -> Result<(), Fail> {
+    let alloc = rt.alloc();
+    let path = path_of(alloc, b"/a/b")?;
+    let other = path_of(alloc, b"/a-")?;
+    assert!(rt; path.compare(&other) == Ordering::Less);
+    assert!(rt; Path::root(alloc).compare(&path) == Ordering::Less);
+    assert!(rt; path.copy()?.is_same(&path));
+    Ok(())
+}
+
+#[test]
+fn records_of_64_fields(rt: HostRuntime) -> Result<(), Fail> {
+    let alloc = rt.alloc();
+    let mut rec = rec_of(alloc, b"{}")?;
     for i in 0..64u8 {
-        let key = Name::new(alloc, Kind::Text, &[b'a', 200 - i])?;
-        rec = rec.with(&key, &Scalar::Int(1))?;
+        rec = with_int(alloc, &rec, &[b'a', 200 - i])?;
     }
     assert_eq!(rt; rec.len(), 64);
-    let key = Name::new(alloc, Kind::Text, b"b")?;
-    assert!(rt; matches!(rec.with(&key, &Scalar::Int(1)), Err(RecFault::Full)));
-    assert!(rt;
-        rec.with(
-            &Name::new(alloc, Kind::Text, &[b'a', 200])?,
-            &Scalar::Int(2)
-        )
-        .is_ok()
-    );
-    assert!(rt; rec.field(b"b").is_none());
-    assert!(rt; rec.field(&[b'a', 200]).is_some());
-    assert!(rt; rec.copy()?.is_same(&rec));
-    let (empty, _) = Rec::read(alloc, b"{}")?;
-    let fits = Scalar::Text(Bytes::from_vec(alloc, letters(alloc, 4091)?));
-    assert!(rt; empty.with(&key, &fits).is_ok());
-    let past = Scalar::Text(Bytes::from_vec(alloc, letters(alloc, 4092)?));
-    assert!(rt; matches!(empty.with(&key, &past), Err(RecFault::Full)));
-    let (found, end) = Rec::read_at(alloc, b"put {a='x} ", 4)?;
-    assert_eq!(rt; end, 10);
-    assert_eq!(rt; found.len(), 1);
+    assert!(rt; matches!(with_int(alloc, &rec, b"b"), Err(RecFault::Full)));
+    assert!(rt; with_int(alloc, &rec, &[b'a', 200]).is_ok());
     Ok(())
 }
 
 #[test]
-fn smaller_forms(rt: HostRuntime) -> Result<(), Fail> {
+fn records_of_4096_bytes(rt: HostRuntime) -> Result<(), Fail> {
+    let alloc = rt.alloc();
+    assert!(rt; one_text(alloc, 4091)?);
+    assert!(rt; !one_text(alloc, 4092)?);
+    Ok(())
+}
+
+#[test]
+fn fields_are_found(rt: HostRuntime) -> Result<(), Fail> {
+    let alloc = rt.alloc();
+    let rec = rec_of(alloc, b"{a=1,b='x}")?;
+    assert!(rt; rec.field(b"b").is_some());
+    assert!(rt; rec.field(b"c").is_none());
+    assert!(rt; rec.copy()?.is_same(&rec));
+    assert_eq!(rt; rec_end(alloc, b"put {a='x} ", 4)?, (1, 10));
+    Ok(())
+}
+
+#[test]
+fn smaller_forms_are_printed(rt: HostRuntime) -> Result<(), Fail> {
     let alloc = rt.alloc();
     let mut out = Vec::new(alloc);
     print_number(18446744073709551615, &mut out)?;
@@ -266,19 +324,31 @@ fn smaller_forms(rt: HostRuntime) -> Result<(), Fail> {
         out.as_slice(),
         b"18446744073709551615-9223372036854775808.%2F%2E:%2E.'%20".as_slice()
     );
+    Ok(())
+}
+
+#[test]
+fn smaller_forms_are_read(rt: HostRuntime) -> Result<(), Fail> {
+    let alloc = rt.alloc();
     assert_eq!(rt; bytes_len(b"./"), 4);
     assert_eq!(rt; name_len(b"."), 3);
     assert!(rt; read_number(b"0x", 9).is_some());
     assert!(rt; read_int(b"-0").is_none());
-    let (text, rest) = Scalar::read(alloc, b"'a%20b,")?;
-    assert_eq!(rt; text.text_len(), 6);
-    assert_eq!(rt; rest, b",".as_slice());
-    assert!(rt; text.copy()?.is_same(&text));
-    assert!(rt; Scalar::Int(7).compare(&text) == Ordering::Less);
     let (bytes, rest) = read_bytes(alloc, b"abc", 2)?;
     assert_eq!(rt; bytes.as_slice(), b"ab".as_slice());
     assert_eq!(rt; rest, b"c".as_slice());
     let (name, _) = read_component(alloc, b":%2E.x")?;
     assert_eq!(rt; component_len(&name), 5);
+    Ok(())
+}
+
+#[test]
+fn scalars_are_read(rt: HostRuntime) -> Result<(), Fail> {
+    let alloc = rt.alloc();
+    let (text, rest) = Scalar::read(alloc, b"'a%20b,")?;
+    assert_eq!(rt; text.text_len(), 6);
+    assert_eq!(rt; rest, b",".as_slice());
+    assert!(rt; text.copy()?.is_same(&text));
+    assert!(rt; Scalar::Int(7).compare(&text) == Ordering::Less);
     Ok(())
 }

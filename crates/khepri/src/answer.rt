@@ -1,0 +1,72 @@
+// The answer to one line.
+ghost use Rattle.std.specs.Prelude.{◌≡◌, ◌<◌, ◌^◌, ◌++◌, OnOk, Some};
+ghost use Rattle.line_io.specs.Shown.{given_next};
+ghost use Rattle.khepri_machine.specs.Machine.{state_of};
+ghost use Rattle.khepri_types.specs.declared.command.Line.TheVariants as line_of;
+ghost use Rattle.khepri_types.specs.Calm.{answer_line, ended, text_of};
+ghost use Rattle.khepri.specs.Told.{told, after};
+
+use khepri_machine::KhepriMachine;
+use khepri_terms::TextFault;
+use khepri_types::{Command, Entry, EntryText, Line, OutLine, Reason, print_out, read_put};
+use line_io::Next;
+use std::alloc::{AllocError, Global};
+
+/// Appends an output line and its LF.
+pub fn put_out(out: &mut Vec<u8>, line: &OutLine) -> Result<(), AllocError>
+    ensures { OnOk result (out.new.items ≡ out.old.items ++ ended line.now) }
+{
+    print_out(line, out)?;
+    out.push(b'\n')?;
+    Ok(())
+}
+
+/// Does what line `number` asks for, and appends its answer.
+pub fn answer(
+    alloc: Global,
+    machine: &mut KhepriMachine,
+    number: u64,
+    next: Next,
+    out: &mut Vec<u8>,
+) -> Result<(), AllocError>
+    requires { (state_of machine.old).position < 2 ^ 40 }
+    ensures text { OnOk result (out.new.items ≡ out.old.items ++ text_of (told number (state_of machine.old) (given_next next))) }
+    ensures state { OnOk result (state_of machine.new ≡ after number (state_of machine.old) (given_next next)) }
+{
+    match next {
+        Next::End => Ok(()),
+        Next::TooLong => refuse(number, Reason::TooLong, out),
+        Next::Line(text) => match read_put(alloc, text.as_slice()) {
+            Ok(Line::Command { node: _, cmd }) => execute(machine, number, cmd, out),
+            Err(TextFault::Bad) => refuse(number, Reason::BadLine, out),
+            Err(TextFault::NoMemory) => Err(AllocError),
+        },
+    }
+}
+
+fn refuse(line: u64, reason: Reason, out: &mut Vec<u8>) -> Result<(), AllocError>
+    ensures { OnOk result (out.new.items ≡ out.old.items ++ ended (OutLine.Refused line reason)) }
+{
+    put_out(out, &OutLine::Refused { line, reason })
+}
+
+// Gives the machine the command of a line, and appends the entry and its reply.
+fn execute(
+    machine: &mut KhepriMachine,
+    line: u64,
+    cmd: Command,
+    out: &mut Vec<u8>,
+) -> Result<(), AllocError>
+    requires { (state_of machine.old).position < 2 ^ 40 }
+    ensures text { OnOk result (out.new.items ≡ out.old.items ++ text_of (answer_line line (state_of machine.old) (Some (line_of.Command 1 cmd))).0) }
+    ensures state { OnOk result (state_of machine.new ≡ (answer_line line (state_of machine.old) (Some (line_of.Command 1 cmd))).1) }
+{
+    let entry = Entry::Command { conn: 0, line, cmd };
+    let reply = machine.exec(&entry)?;
+    let n = machine.position();
+    let text = match entry {
+        Entry::Command { cmd, .. } => EntryText::Command(cmd),
+    };
+    put_out(out, &OutLine::Entry { n, line, text })?;
+    put_out(out, &OutLine::Reply { line, n, reply })
+}
