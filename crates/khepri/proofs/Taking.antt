@@ -1,12 +1,11 @@
 -- What a session has taken and been given.
-use Rattle.std.proofs.Common.{◌≡◌, ◌≢◌, ℕ, zero, suc, ◌+◌, ◌-◌, ◌<◌, ◌≤◌, ◌^◌, Bool, true, false, cond, eqb, List, [], ◌∷◌, ◌++◌, length, take, drop, map, refl, sym, ap, subst, ◌∙◌, append_assoc, arith, inl, inr, ◌⊎◌, Option, Some, None, Result, Ok, Err}
-use Rattle.std.proofs.lemmas.List.{append-nil, length-append, take_all, take-append-le, take-append-drop, nil_from_length, drop_all}
+use Rattle.std.proofs.Common.{◌≡◌, ◌≢◌, ℕ, ◌+◌, ◌-◌, ◌<◌, ◌≤◌, Bool, true, false, cond, eqb, List, [], ◌∷◌, ◌++◌, length, take, drop, refl, sym, ap, subst, ◌∙◌, append_assoc, arith, inl, inr, ◌⊎◌, Option, Result, Ok, Err}
+use Rattle.std.proofs.lemmas.List.{append-nil, length-append, take-append-drop, nil_from_length, drop_all}
 use Rattle.std.proofs.lemmas.List.{map-append, length-map}
-use Rattle.line_io.specs.Lines.{NoLf, lines, whole_lines, lines_from, last_line, no_line, without_cr}
-use Rattle.line_io.specs.Shown.{shown, shown_lines, given_next, given}
+use Rattle.line_io.specs.Lines.{lines, whole_lines, lines_from, last_line, no_line, without_cr}
+use Rattle.line_io.specs.Shown.{shown, shown_lines, given}
 use Rattle.line_io.specs.Reading.{Reading, bytes_ahead}
-use Rattle.line_io.specs.Ahead.{Continues, GoesOn, Reads, bytes_before, TakesAll, Step, HasEnd, HasCause, Call}
-use Rattle.line_io.specs.Streams.{Rose}
+use Rattle.line_io.specs.Ahead.{GoesOn, Reads, TakesAll, HasCause, Call}
 use Rattle.line_io.proofs.Reader.{goes-more, goes-then, goes-same}
 use Rattle.line_io.proofs.Pieces.{take-nil, takes_none}
 use Rattle.line_io.proofs.Calls.{take_both, TakesAll-then}
@@ -14,7 +13,6 @@ use Rattle.line_io.specs.declared.next.Next.{Next}
 use Rattle.line_io.specs.declared.next.Next.TheVariants.{Line, TooLong, End}
 use Rattle.line_io.specs.declared.next.LineFault.{LineFault}
 use Rattle.line_io.specs.declared.next.LineFault.TheVariants.{ReadFault, InputLong, NoMemory}
-use Rattle.khepri_types.specs.declared.limits.TheConstants.{MAX_LINE_BYTES, MAX_INPUT_BYTES}
 
 -- ---- lines of bytes and of what follows
 
@@ -28,7 +26,7 @@ unfolding lines_from
 lines_split last begun [] after = refl
 lines_split last begun (b ∷ bytes) after =
     elim (eqb b 10) as (λ (v : Bool). cond v (without_cr begun ∷ lines_from last [] (bytes ++ after)) (lines_from last (begun ++ b ∷ []) (bytes ++ after))
-        ≡ cond v (without_cr begun ∷ lines_from no_line [] bytes) (lines_from no_line (begun ++ b ∷ []) bytes) ++ lines_from last (cond v (tail_from [] bytes) (tail_from (begun ++ b ∷ []) bytes)) after) [
+    ≡ cond v (without_cr begun ∷ lines_from no_line [] bytes) (lines_from no_line (begun ++ b ∷ []) bytes) ++ lines_from last (cond v (tail_from [] bytes) (tail_from (begun ++ b ∷ []) bytes)) after) [
       | true ↦ ap (λ (x : List (List ℕ)). without_cr begun ∷ x) (lines_split last [] bytes after)
       | false ↦ lines_split last (begun ++ b ∷ []) bytes after
     ]
@@ -114,14 +112,14 @@ pub record SoFar (limit budget : ℕ) (left left' : Option (List ℕ)) (r : Read
 pub progress-none : (limit budget : ℕ) (left : Option (List ℕ)) (r : Reading) → r ≡ record { limit = limit; unread = []; room = budget + 1; ended = false } → SoFar limit budget left left r [] []
 progress-none limit budget left r e =
     subst (λ (q : Reading). SoFar limit budget left left q [] []) (sym e) (
-      record {
-        took = takes_none left left refl;
-        limit_is = refl;
-        spent = omega arith;
-        reads = subst (λ (x : List ℕ). GoesOn limit x [] []) (sym (take-nil budget)) (goes-same limit []);
-        first = (shown_lines limit (lines []), refl);
-        fewer = omega arith;
-      }
+    record {
+      took = takes_none left left refl;
+      limit_is = refl;
+      spent = omega arith;
+      reads = subst (λ (x : List ℕ). GoesOn limit x [] []) (sym (take-nil budget)) (goes-same limit []);
+      first = (shown_lines limit (lines []), refl);
+      fewer = omega arith;
+    }
     )
 
 progress-on : (limit budget : ℕ) (left left1 left2 : Option (List ℕ)) (r1 r2 : Reading) (bytes : List ℕ) (gave : List (Option (List ℕ))) (n m : ℕ) (result : Result Next LineFault)

@@ -1,15 +1,13 @@
 -- What is written, line by line.
-use Rattle.std.proofs.Common.{◌≡◌, ℕ, ◌+◌, ◌<◌, ◌≤◌, Bool, true, false, cond, ltb, List, [], ◌∷◌, ◌++◌, length, map, refl, sym, ap, subst, ◌∙◌, append_assoc, arith, inl, inr, ◌⊎◌, Option, Some, None}
+use Rattle.std.proofs.Common.{◌≡◌, ℕ, ◌+◌, ◌≤◌, List, [], ◌∷◌, ◌++◌, length, refl, sym, ap, ◌∙◌, append_assoc, arith, inl, inr, Option, Some, None}
 use Rattle.std.proofs.lemmas.Bool.{cases_lt, lt-ltb, le-ltb}
-use Rattle.std.proofs.lemmas.List.{append-nil, length-append}
+use Rattle.std.proofs.lemmas.List.{append-nil}
 use Rattle.std.proofs.lemmas.Grind.{flat_map-append}
 use Rattle.line_io.specs.Shown.{shown, shown_lines}
 use Rattle.khepri_types.specs.declared.limits.TheConstants.{MAX_LINE_BYTES}
-use Rattle.khepri_types.specs.declared.command.Command.{Command}
 use Rattle.khepri_types.specs.declared.command.Command.TheVariants.{Put}
 use Rattle.khepri_types.specs.declared.command.Line.{Line}
 use Rattle.khepri_types.specs.declared.command.Line.TheVariants as line
-use Rattle.khepri_types.specs.declared.out.Reason.TheVariants.{TooLong}
 use Rattle.khepri_types.specs.declared.out.OutLine.{OutLine}
 use Rattle.khepri_types.specs.declared.out.OutLine.TheVariants as out
 use Rattle.khepri_types.specs.Exec.{State, opening_state}

@@ -1,18 +1,15 @@
 -- A session amid its input, and how it ends.
-use Rattle.std.proofs.Common.{◌≡◌, ◌≢◌, ℕ, ◌+◌, ◌-◌, ◌<◌, ◌≤◌, ◌^◌, Bool, true, false, List, [], ◌∷◌, ◌++◌, length, take, drop, refl, sym, ap, subst, ◌∙◌, append_assoc, arith, inl, inr, ◌⊎◌, Option, Some, None, Result, Ok, Err}
-use Rattle.std.specs.Prelude.{IfSome}
+use Rattle.std.proofs.Common.{◌≡◌, ◌≢◌, ℕ, ◌+◌, ◌<◌, ◌≤◌, ◌^◌, Bool, true, false, List, [], ◌++◌, length, take, drop, refl, sym, ap, subst, ◌∙◌, append_assoc, arith, Option, Some, None, Ok, Err}
 use Rattle.std.proofs.lemmas.List.{append-nil, length-append, take_all, take-append-drop}
-use Rattle.std.proofs.lemmas.Grind.{flat_map-append}
-use Rattle.line_io.specs.Lines.{NoLf, lines, whole_lines, lines_from, no_line}
-use Rattle.line_io.specs.Shown.{shown, shown_lines, given_next, given}
-use Rattle.line_io.specs.Reading.{Reading, bytes_ahead}
-use Rattle.line_io.specs.Ahead.{GoesOn, Reads, TakesAll, Call}
+use Rattle.line_io.specs.Lines.{NoLf, lines, whole_lines, no_line}
+use Rattle.line_io.specs.Shown.{shown_lines, given_next}
+use Rattle.line_io.specs.Reading.{Reading}
+use Rattle.line_io.specs.Ahead.{Reads, TakesAll, Call}
 use Rattle.line_io.specs.Streams.{Rose, Appends, AppendsFront}
 use Rattle.line_io.proofs.Appending.{Appends-then, Rose-wider}
 use Rattle.line_io.proofs.LineLemmas.{lines_from-alone}
 use Rattle.line_io.specs.declared.next.Next.{Next}
 use Rattle.line_io.specs.declared.next.Next.TheVariants.{Line, TooLong, End}
-use Rattle.line_io.specs.declared.next.LineFault.{LineFault}
 use Rattle.line_io.specs.declared.next.LineFault.TheVariants.{ReadFault, InputLong, NoMemory}
 use Rattle.khepri_types.specs.declared.limits.TheConstants.{MAX_LINE_BYTES, MAX_INPUT_BYTES}
 use Rattle.khepri_types.specs.Exec.{State, opening_state}
@@ -21,10 +18,10 @@ use Rattle.khepri_types.specs.Legal.{Legal}
 use Rattle.khepri_types.specs.Calm.{calm, text_of}
 use Rattle.khepri_types.proofs.Legality.{calm-legal}
 use Rattle.khepri.specs.Told.{told, after, told_text}
-use Rattle.khepri.specs.Session.{Session, Took, IsAtEnd, IsFrontOf, IsEnded, IsCutOff, IsOver, Says, calm_text}
+use Rattle.khepri.specs.Session.{Session, Took, IsAtEnd, IsFrontOf, Says, calm_text}
 use Rattle.khepri.specs.declared.status.Status.{Status}
 use Rattle.khepri.specs.declared.status.Status.TheVariants as status
-use Rattle.khepri.proofs.Telling.{calm_told, told_text-more, told_text-none, after-more, position_after}
+use Rattle.khepri.proofs.Telling.{calm_told, told_text-more, after-more, position_after}
 use Rattle.khepri.proofs.Taking.{SoFar, IsFirst, progress-none, progress-more, few_lines}
 
 -- ---- taking and writing
@@ -156,11 +153,11 @@ on_end left held left1 held1 left2 r1 r2 l S n m a c =
     let reads : Reads MAX_LINE_BYTES (take MAX_INPUT_BYTES bytes) (a.gave ++ []) r2.unread true = subst (λ (v : Bool). Reads MAX_LINE_BYTES (take MAX_INPUT_BYTES bytes) (a.gave ++ []) r2.unread v) c.cause.0 p.reads in
     let all : shown_lines MAX_LINE_BYTES (lines bytes) ≡ a.gave = ap (λ (x : List ℕ). shown_lines MAX_LINE_BYTES (lines x)) (sym (take_all MAX_INPUT_BYTES bytes within)) ∙ (reads.0 ∙ append-nil a.gave) in
     ends status.Ended left held left2 held1 r2 bytes a.gave [] p a.wrote (
-      record {
-        at_end = at_end left left2 bytes (subst (λ (v : Bool). TakesAll left left2 bytes v) c.cause.0 p.took);
-        within = within;
-        answered = sym (calm_told (lines bytes) ∙ ap told_text all);
-      }
+    record {
+      at_end = at_end left left2 bytes (subst (λ (v : Bool). TakesAll left left2 bytes v) c.cause.0 p.took);
+      within = within;
+      answered = sym (calm_told (lines bytes) ∙ ap told_text all);
+    }
     )
 
 -- what an LF ended was given
@@ -197,7 +194,7 @@ on_input_long left held left1 held1 left2 r1 r2 l S n m a c =
     let bytes = a.bytes ++ c.bytes in
     let p : SoFar MAX_LINE_BYTES MAX_INPUT_BYTES left left2 r2 bytes (a.gave ++ []) = progress-more MAX_LINE_BYTES MAX_INPUT_BYTES left left1 left2 r1 r2 a.bytes a.gave n m (Err InputLong) a.progress c in
     ends status.InputLong left held left2 held1 r2 bytes a.gave [] p a.wrote (
-      record { over = omega (arith, p.spent, c.cause.1); answered = whole_given MAX_INPUT_BYTES left left2 r2 bytes a.gave p c.cause.0 c.cause.2 }
+    record { over = omega (arith, p.spent, c.cause.1); answered = whole_given MAX_INPUT_BYTES left left2 r2 bytes a.gave p c.cause.0 c.cause.2 }
     )
 
 -- there was no memory to read on

@@ -1,5 +1,5 @@
 -- What a session takes and writes, by the status that it ends with.
-use Rattle.std.specs.Prelude.{◌≡◌, ℕ, ◌+◌, ◌<◌, ◌≤◌, List, [], ◌++◌, length, take, Option, Some, None, IfSome}
+use Rattle.std.specs.Prelude.{◌≡◌, ℕ, ◌+◌, ◌≤◌, List, [], ◌++◌, length, take, Option, Some, None, IfSome}
 use Rattle.line_io.specs.Lines.{lines, whole_lines}
 use Rattle.line_io.specs.Streams.{Appends, AppendsFront}
 use Rattle.khepri_types.specs.declared.limits.TheConstants.{MAX_INPUT_BYTES}

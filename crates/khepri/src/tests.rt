@@ -38,7 +38,8 @@ impl Sink for SlowSink {
     }
 }
 
-const LINES: &str = "@1 put /a/b {x=1}\n@1 put /a/b {x=1}\n@1 put /a/b {x=2}\n@1 get /a\n@1 put / {x=1}\n";
+const LINES: &str =
+    "@1 put /a/b {x=1}\n@1 put /a/b {x=1}\n@1 put /a/b {x=2}\n@1 get /a\n@1 put / {x=1}\n";
 
 // What is written first, and for each of these lines.
 const ANSWERS: [&str; 6] = [
@@ -50,7 +51,8 @@ const ANSWERS: [&str; 6] = [
     "# 4 @5 put / {x=1}\n= 5 4 ok 2 0\n",
 ];
 
-const USAGE: &str = "khepri: session [--nodes N] | audit | gen --lines C --seed X | serve --port P --nodes N --workers W --connections C\n";
+const USAGE: &str =
+    "khepri: session [--nodes N] | audit | gen --lines C --seed X | serve --port P --nodes N --workers W --connections C\n";
 
 // What is written where this many of the lines were answered.
 fn answers(alloc: Global, lines: usize) -> Result<Vec<u8>, AllocError> {
@@ -78,10 +80,7 @@ fn one(alloc: Global, number: u64) -> Result<Vec<u64>, AllocError> {
 }
 
 fn source(alloc: Global, text: &str, fails: Vec<u64>) -> Result<MemSource, AllocError> {
-    Ok(MemSource::new(
-        Vec::from_slice(alloc, text.as_bytes())?,
-        fails,
-    ))
+    Ok(MemSource::new(Vec::from_slice(alloc, text.as_bytes())?, fails))
 }
 
 fn sink(alloc: Global, fails: Vec<u64>) -> MemSink {

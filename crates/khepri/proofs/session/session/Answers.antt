@@ -1,6 +1,6 @@
-use Rattle.std.proofs.Common.{◌≡◌, ◌≤◌, ℕ, Bool, true, false, List, [], ◌++◌, take, Option, Result, Ok, Err, refl, sym, ap, subst, ◌∙◌, arith}
+use Rattle.std.proofs.Common.{◌≡◌, ℕ, true, false, List, [], ◌++◌, Result, Ok, Err, sym, ap, subst, ◌∙◌, arith}
 use Rattle.std.specs.Result.{OnOk, OnErr, is_err}
-use Rattle.line_io.specs.Streams.{Rose, Appends, AppendsFront}
+use Rattle.line_io.specs.Streams.{AppendsFront}
 use Rattle.line_io.specs.Ahead.{Call}
 use Rattle.line_io.specs.declared.next.Next.{Next}
 use Rattle.line_io.specs.declared.next.LineFault.{LineFault}
@@ -12,7 +12,7 @@ use Rattle.khepri_machine.specs.Machine.{state_of}
 use Rattle.khepri.specs.Told.{told, told_text}
 use Rattle.khepri.specs.declared.status.Status.TheVariants as status
 use Rattle.khepri.proofs.Telling.{told_text-none}
-use Rattle.khepri.proofs.Turns.{Asked, amid-none, asked, asked_room, answered, on_end, on_source_fault, on_input_long, on_no_memory, on_no_answer, on_sink_fault, rose_source, rose_sink, unopened}
+use Rattle.khepri.proofs.Turns.{amid-none, asked, asked_room, answered, on_end, on_source_fault, on_input_long, on_no_memory, on_no_answer, on_sink_fault, rose_source, rose_sink, unopened}
 use Rattle.khepri.proofs.session.session.Goals as goal
 
 ok_part : {X E P : Type 0} (r : Result X E) → is_err r ≡ false → OnOk r P → P
