@@ -1,11 +1,10 @@
 -- What is read of bytes is spelled so, and what is spelled so is read.
-use Rattle.std.proofs.Common.{◌≡◌, ℕ, suc, ◌+◌, ◌*◌, ◌-◌, ◌/◌, ◌%◌, ◌<◌, ◌≤◌, Bool, true, false, cond, leb, eqb, ◌&&◌, ◌⊎◌, ⊎_elim, List, [], ◌∷◌, ◌++◌, length, refl, sym, ap, subst, ◌∙◌, arith, Option, Some, None}
+use Rattle.std.proofs.Common.{◌≡◌, ℕ, ◌+◌, ◌*◌, ◌-◌, ◌/◌, ◌%◌, ◌<◌, true, false, cond, leb, eqb, ◌&&◌, ⊎_elim, List, [], ◌∷◌, ◌++◌, length, refl, ap, subst, ◌∙◌, arith, Some, None}
 use Rattle.std.proofs.lemmas.Bool.Decides.{nat_tests}
 use Rattle.std.proofs.lemmas.Bool.{eqb-true, cond-true, cond-false}
 use Rattle.std.specs.Fmt.{digit_glyph}
-use Rattle.std.specs.List.{flat_map, AllByRecursion}
 use Rattle.percent_encoding.specs.Percent.{percent_encode_byte}
-use Rattle.khepri_terms.specs.Many.{many, ◌>>=◌}
+use Rattle.khepri_terms.specs.Many.{◌>>=◌}
 use Rattle.khepri_terms.specs.Bytes.{is_plain, byte_text, bytes_text, AreBytes, hex_value, escape_at, byte_at, bytes_at}
 use Rattle.khepri_terms.proofs.Cases.{bind_some, if_some, guard_some, unless_some}
 use Rattle.khepri_terms.proofs.Reading.{ahead, Took, many_takes, many_again}

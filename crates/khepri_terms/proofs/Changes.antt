@@ -1,10 +1,10 @@
 -- A record with a field more is a record where it is small.
-use Rattle.std.proofs.Common.{◌≡◌, ℕ, ◌+◌, ◌<◌, ◌≤◌, Bool, true, false, cond, leb, ◌&&◌, List, [], ◌∷◌, ◌++◌, length, refl, sym, ap, subst, ◌∙◌, arith}
+use Rattle.std.proofs.Common.{◌≡◌, ℕ, ◌+◌, ◌<◌, ◌≤◌, true, leb, List, [], ◌∷◌, length, refl, ap, ◌∙◌, arith}
 use Rattle.std.proofs.lemmas.Bool.Decides.{nat_tests}
 use Rattle.std.proofs.lemmas.Bool.{and_from}
 use Rattle.std.proofs.lemmas.List.{length-append}
 use Rattle.std.proofs.lemmas.Cmp.{nat_list_cmp_total}
-use Rattle.std.specs.List.{flat_map, AllByRecursion}
+use Rattle.std.specs.List.{AllByRecursion}
 use Rattle.std.specs.Ordering.{nat_cmp, is_lt, match_ordering}
 use Rattle.std.specs.Cmp.Lexicographic.{slice_cmp}
 use Rattle.std.specs.declared.cmp.Ordering.{Ordering}
@@ -13,11 +13,10 @@ use Rattle.percent_encoding.specs.Percent.{percent_encode_byte}
 use Rattle.khepri_terms.specs.declared.scalar.Scalar.{Scalar}
 use Rattle.khepri_terms.specs.declared.scalar.Scalar.TheVariants.{Int, Text}
 use Rattle.khepri_terms.specs.declared.rec.Field.{Field}
-use Rattle.khepri_terms.specs.Bytes.{is_plain, byte_text, bytes_text}
+use Rattle.khepri_terms.specs.Bytes.{byte_text, bytes_text}
 use Rattle.khepri_terms.specs.Names.{name_text, IsNameBytes}
 use Rattle.khepri_terms.specs.Records.{scalar_text, IsValue, IsScalar, field_text, IsField, fields_text, rec_text, keys_rise, IsRec, with_field, is_small}
 use Rattle.khepri_terms.proofs.Cases.{and_true}
-use Rattle.khepri_terms.proofs.RecordsLaws.{fields_text-more, fields_text-one}
 
 -- how two keys stand
 abbrev keys : Field → Field → Ordering

@@ -1,10 +1,10 @@
 -- How the loop over fields goes on.
-use Rattle.std.proofs.Common.{◌≡◌, ℕ, zero, suc, ◌+◌, ◌-◌, ◌<◌, ◌≤◌, Bool, true, false, cond, List, [], ◌∷◌, ◌++◌, length, refl, sym, ap, ◌∙◌, append_assoc, arith, Option, Some, None}
+use Rattle.std.proofs.Common.{◌≡◌, ℕ, zero, suc, ◌+◌, ◌-◌, ◌<◌, Bool, true, false, cond, List, [], ◌∷◌, ◌++◌, length, refl, sym, ap, ◌∙◌, append_assoc, arith, Option, Some, None}
 use Rattle.std.proofs.lemmas.List.{length-append}
 use Rattle.khepri_terms.specs.declared.rec.Field.{Field}
-use Rattle.khepri_terms.specs.Many.{◌>>=◌, onto}
+use Rattle.khepri_terms.specs.Many.{◌>>=◌}
 use Rattle.khepri_terms.specs.Records.{field_at, end_at, joined, fields_at}
-use Rattle.khepri_terms.proofs.Reading.{ahead, beyond}
+use Rattle.khepri_terms.proofs.Reading.{beyond}
 
 -- the step of the definition
 fields_at-suc : (n : ℕ) (text : List ℕ) → fields_at (suc n) text ≡ (field_at text >>= λ f. end_at f.1 >>= λ e. cond e.0 (Some (f.0 ∷ [], e.1)) (joined f.0 (fields_at n e.1)))

@@ -1,6 +1,5 @@
 -- What is read is the longest spelling.
-use Rattle.std.proofs.Common.{◌≡◌, ℕ, zero, suc, ◌+◌, ◌-◌, ◌<◌, ◌≤◌, Bool, true, false, cond, eqb, List, [], ◌∷◌, ◌++◌, length, take, drop, refl, sym, ap, subst, ◌∙◌, append_assoc, arith, Option, Some, None}
-use Rattle.std.proofs.lemmas.Bool.{eqb-true}
+use Rattle.std.proofs.Common.{◌≡◌, ℕ, ◌+◌, ◌-◌, ◌<◌, ◌≤◌, eqb, List, [], ◌∷◌, ◌++◌, length, take, refl, sym, ap, subst, ◌∙◌, append_assoc, arith, Some, None}
 use Rattle.std.proofs.lemmas.List.{length-append}
 use Rattle.std.proofs.Math.Seq.{take-append-add}
 use Rattle.std.specs.List.{flat_map, AllByRecursion}
@@ -8,11 +7,11 @@ use Rattle.khepri_terms.specs.Terms.{NameText}
 use Rattle.khepri_terms.specs.declared.rec.Field.{Field}
 use Rattle.khepri_terms.specs.Many.{onto}
 use Rattle.khepri_terms.specs.Bytes.{is_plain}
-use Rattle.khepri_terms.specs.Names.{IsName, comp_at, comp_text, Stops}
+use Rattle.khepri_terms.specs.Names.{IsName, comp_text, Stops}
 use Rattle.khepri_terms.specs.Paths.{step_text, path_text, IsPath, step_at, names_at, path_of, path_at, LongestPath, BeginsNoPath}
-use Rattle.khepri_terms.specs.Records.{rec_text, rec_at, IsRec, OnlyRec, BeginsNoRec}
+use Rattle.khepri_terms.specs.Records.{rec_at, OnlyRec, BeginsNoRec}
 use Rattle.khepri_terms.proofs.Cases.{guard_some, some_is, some_not_none}
-use Rattle.khepri_terms.proofs.Reading.{Took, many-more}
+use Rattle.khepri_terms.proofs.Reading.{many-more}
 use Rattle.khepri_terms.proofs.NamesLaws.{comp_more}
 use Rattle.khepri_terms.proofs.PathsLaws.{step_again, names_take, names_within, path_text-more, path_text-root, path_takes, two_bytes}
 use Rattle.khepri_terms.proofs.RecordsLaws.{rec_takes, rec_again}

@@ -1,5 +1,5 @@
 -- What is read of numbers is spelled so, and what is spelled so is read.
-use Rattle.std.proofs.Common.{◌≡◌, ℕ, zero, suc, ◌+◌, ◌*◌, ◌-◌, ◌^◌, ◌<◌, ◌≤◌, Bool, true, false, cond, eqb, leb, ◌&&◌, ⊎_elim, List, [], ◌∷◌, ◌++◌, length, get_or, ℤ, pos, negsuc, refl, sym, ap, subst, ◌∙◌, arith, rules, Option, Some, None}
+use Rattle.std.proofs.Common.{◌≡◌, ℕ, zero, suc, ◌+◌, ◌*◌, ◌-◌, ◌^◌, ◌<◌, ◌≤◌, true, false, cond, eqb, leb, ⊎_elim, List, [], ◌∷◌, ◌++◌, length, get_or, ℤ, pos, negsuc, refl, sym, ap, subst, ◌∙◌, arith, rules, Option, Some, None}
 use Rattle.std.proofs.lemmas.Bool.Decides.{nat_tests}
 use Rattle.std.proofs.lemmas.Bool.{eqb-true, cond-true, cond-false, le-leb}
 use Rattle.std.proofs.lemmas.Str.Parse.{IsNumeralModel, numerals_by_fold}
@@ -8,7 +8,7 @@ use Rattle.std.specs.List.{AllByRecursion}
 use Rattle.std.specs.Fmt.{decimal, signed_decimal}
 use lib.Signed.{mag}
 use Rattle.khepri_terms.specs.Numbers.{is_digit, number_from, number_at, risen, sunken, int_at}
-use Rattle.khepri_terms.proofs.Cases.{if_some, guard_some, some_is, and_true}
+use Rattle.khepri_terms.proofs.Cases.{if_some, guard_some, some_is}
 
 abbrev pub AreDigits : List ℕ → Type 0
 AreDigits ds = AllByRecursion (λ b. is_digit b ≡ true) ds

@@ -1,14 +1,13 @@
 -- What is read of paths is spelled so, and what is spelled so is read.
-use Rattle.std.proofs.Common.{◌≡◌, ℕ, zero, suc, ◌+◌, ◌-◌, ◌<◌, ◌≤◌, Bool, true, false, cond, eqb, ◌||◌, List, [], ◌∷◌, ◌++◌, length, get_or, take, drop, refl, sym, ap, subst, ◌∙◌, append_assoc, arith, Option, Some, None, take-append-drop}
+use Rattle.std.proofs.Common.{◌≡◌, ℕ, zero, suc, ◌+◌, ◌-◌, ◌<◌, ◌≤◌, false, eqb, ◌||◌, List, [], ◌∷◌, ◌++◌, length, get_or, take, drop, refl, sym, ap, subst, ◌∙◌, append_assoc, arith, Option, Some, None, take-append-drop}
 use Rattle.std.proofs.lemmas.Bool.{eqb-true, cond-true, cond-false, eq-eqb}
-use Rattle.std.proofs.lemmas.List.{append-nil, take_at, drop_at, length-append, length-take, take_all}
+use Rattle.std.proofs.lemmas.List.{append-nil, drop_at, length-append, length-take}
 use Rattle.std.proofs.Math.Seq.{take-append-add}
 use Rattle.std.specs.List.{flat_map, AllByRecursion}
 use Rattle.khepri_terms.specs.declared.name.Kind.TheVariants.{Text}
 use Rattle.khepri_terms.specs.Terms.{NameText}
-use Rattle.khepri_terms.specs.Many.{many, onto}
 use Rattle.khepri_terms.specs.Bytes.{is_plain, byte_at}
-use Rattle.khepri_terms.specs.Names.{mark, name_text, IsNameBytes, IsName, comp_text, spells, Stops, comp_at, name_at, named, undotted}
+use Rattle.khepri_terms.specs.Names.{mark, name_text, IsNameBytes, IsName, Stops, comp_at, name_at, named, undotted}
 use Rattle.khepri_terms.specs.Paths.{step_text, path_text, IsPath, goes_on, Ends, step_at, names_at, path_of, path_at}
 use Rattle.khepri_terms.proofs.Cases.{guard_some, some_is, or_false}
 use Rattle.khepri_terms.proofs.Reading.{ahead, Took, many-end, many_takes, many_again}

@@ -1,18 +1,17 @@
 -- What is read of records is spelled so, and what is spelled so is read.
-use Rattle.std.proofs.Common.{◌≡◌, ℕ, zero, suc, ◌+◌, ◌-◌, ◌^◌, ◌<◌, ◌≤◌, Bool, true, false, cond, eqb, leb, ◌&&◌, ◌⊎◌, ⊎_elim, List, [], ◌∷◌, ◌++◌, length, ℤ, pos, negsuc, refl, sym, ap, subst, ◌∙◌, append_assoc, arith, Option, Some, None}
+use Rattle.std.proofs.Common.{◌≡◌, ℕ, zero, suc, ◌-◌, ◌<◌, ◌≤◌, Bool, true, false, cond, eqb, leb, ◌&&◌, ⊎_elim, List, [], ◌∷◌, ◌++◌, length, ℤ, refl, sym, ap, subst, ◌∙◌, append_assoc, arith, Option, Some, None}
 use Rattle.std.proofs.lemmas.Bool.Decides.{nat_tests}
 use Rattle.std.proofs.lemmas.Bool.{eqb-true, cond-true, cond-false, le-leb}
 use Rattle.std.proofs.lemmas.List.{append-nil, length-append}
 use Rattle.std.specs.List.{AllByRecursion}
 use Rattle.std.specs.Fmt.{signed_decimal}
-use lib.Signed.{mag}
 use Rattle.khepri_terms.specs.declared.scalar.Scalar.{Scalar}
 use Rattle.khepri_terms.specs.declared.scalar.Scalar.TheVariants.{Int, Text}
 use Rattle.khepri_terms.specs.declared.rec.Field.{Field}
 use Rattle.khepri_terms.specs.Many.{◌>>=◌, onto}
-use Rattle.khepri_terms.specs.Bytes.{is_plain, byte_text, bytes_text, byte_at, bytes_at}
-use Rattle.khepri_terms.specs.Names.{name_text, IsNameBytes, spells, Stops, undotted, name_at}
-use Rattle.khepri_terms.specs.Numbers.{is_digit, number_at, risen, int_at}
+use Rattle.khepri_terms.specs.Bytes.{is_plain, bytes_text, byte_at, bytes_at}
+use Rattle.khepri_terms.specs.Names.{name_text, Stops, undotted, name_at}
+use Rattle.khepri_terms.specs.Numbers.{is_digit, number_at, int_at}
 use Rattle.khepri_terms.specs.Records.{scalar_text, IsScalar, field_text, IsField, fields_text, rec_text, keys_rise, IsRec, int_of, text_of, scalar_at, value_at, field_at, end_at, joined, fields_at, inner_at, opened_at, checked, rec_at}
 use Rattle.khepri_terms.proofs.Cases.{bind_some, if_some, guard_some, some_is, and_true, or_false}
 use Rattle.khepri_terms.proofs.Reading.{ahead, many-end}

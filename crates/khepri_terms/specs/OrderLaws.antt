@@ -1,5 +1,5 @@
 -- The laws of equality, order and hash, which the impls of the comparing traits cite.
-use Rattle.std.proofs.Common.{◌≡◌, ℕ, Bool, true, false, ◌&&◌, List, [], ◌∷◌, ◌++◌, Decides, nat_eq, ℤ, pos, refl, sym, ap, subst, ◌∙◌, arith, rules, is_eq}
+use Rattle.std.proofs.Common.{◌≡◌, ℕ, Bool, true, ◌&&◌, List, [], Decides, nat_eq, ℤ, pos, refl, sym, ap, subst, ◌∙◌, arith, rules, is_eq}
 use Rattle.std.specs.Cmp.Rules.{comparing}
 use Rattle.std.specs.Cmp.{IsTotalOrder, IsEquivalence}
 use Rattle.std.specs.Cmp.Lexicographic.{slice_cmp, pointwise, pointwise_decides, bytes_decides, lists_ties, texts_ties}

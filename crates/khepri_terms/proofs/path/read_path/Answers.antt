@@ -1,8 +1,8 @@
-use Rattle.std.proofs.Common.{◌≡◌, ℕ, ◌<◌, ◌≤◌, ◌-◌, List, length, get_or, take, min, drop, sym, ap, subst, arith, ◌∙◌, Some}
+use Rattle.std.proofs.Common.{◌≡◌, ℕ, ◌<◌, List, length, get_or, sym, ap, subst, arith, ◌∙◌, Some}
 use Rattle.std.proofs.lemmas.List.{length-take}
 use Rattle.khepri_terms.specs.Terms.{NameText}
 use Rattle.khepri_terms.specs.Names.{IsName}
-use Rattle.khepri_terms.specs.Paths.{step_text, names_at}
+use Rattle.khepri_terms.specs.Paths.{step_text}
 use Rattle.khepri_terms.proofs.Reading.{Took}
 use Rattle.khepri_terms.proofs.PathsLaws.{names_take, path_is}
 use Rattle.khepri_terms.proofs.path.read_path.Goals as goal

@@ -1,4 +1,4 @@
-use Rattle.std.proofs.Common.{◌≡◌, ◌≤◌, ◌-◌, true, length, sym, ◌∙◌, ap, arith}
+use Rattle.std.proofs.Common.{◌≡◌, ◌≤◌, ◌-◌, true, length, arith}
 use Rattle.khepri_terms.specs.Records.{keys_rise}
 use Rattle.khepri_terms.proofs.RecordsLaws.{record_is}
 use Rattle.khepri_terms.proofs.rec.read_rec.Goals as goal

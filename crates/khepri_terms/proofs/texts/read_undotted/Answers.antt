@@ -1,5 +1,5 @@
 use Rattle.std.proofs.Common.{ℕ, List, ◌<◌, subst, arith}
-use Rattle.khepri_terms.specs.Bytes.{byte_text, bytes_at}
+use Rattle.khepri_terms.specs.Bytes.{byte_text}
 use Rattle.khepri_terms.proofs.Reading.{Took}
 use Rattle.khepri_terms.proofs.BytesLaws.{bytes_takes}
 use Rattle.khepri_terms.proofs.texts.read_undotted.Goals as goal

@@ -1,4 +1,4 @@
-use Rattle.std.proofs.Common.{◌≡◌, ◌≤◌, ℕ, List, ◌++◌, length, drop, sym, ap, ◌∙◌, Some}
+use Rattle.std.proofs.Common.{◌≡◌, ℕ, List, drop, sym, ap, ◌∙◌, Some}
 use Rattle.khepri_terms.specs.Paths.{path_at, path_text}
 use Rattle.khepri_terms.proofs.Reading.{ends_at}
 use Rattle.khepri_terms.proofs.PathsLaws.{path_takes}

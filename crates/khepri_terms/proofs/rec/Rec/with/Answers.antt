@@ -1,5 +1,4 @@
-use Rattle.std.proofs.Common.{◌≡◌, List, [], ◌++◌, ℕ, true, subst, sym, ap, ◌∙◌}
-use Rattle.khepri_terms.specs.declared.scalar.Scalar.{Scalar}
+use Rattle.std.proofs.Common.{◌≡◌, List, [], ◌++◌, true, subst, sym, ap, ◌∙◌}
 use Rattle.khepri_terms.specs.declared.rec.Field.{Field}
 use Rattle.khepri_terms.specs.Records.{IsRec, with_field, is_small}
 use Rattle.khepri_terms.proofs.Changes.{with_is}
