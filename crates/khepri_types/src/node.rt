@@ -33,7 +33,7 @@ impl Payload {
             },
             Payload::Fields(a) => match other {
                 Payload::Empty => false,
-                Payload::Fields(b) => a.is_same(b),
+                Payload::Fields(b) => a == b,
             },
         }
     }
