@@ -143,7 +143,7 @@ fn read_undotted(alloc: Global, text: &[u8]) -> Result<(Vec<u8>, &[u8]), TextFau
     Ok((bytes, rest))
 }
 
-/// The bytes of the longest name at the front, and what is after it.
+/// The bytes of the name at the front, read as far as it goes, and what is after it.
 #[tactic(auto, unfolding(crate::specs::Names::name_at))]
 pub fn read_name(alloc: Global, text: &[u8]) -> Result<(Vec<u8>, &[u8]), TextFault>
     ensures value { IfOk result (λ x. name_at text.now ≡ Some (x.0.items, x.1.now)) }
@@ -170,7 +170,7 @@ pub fn print_name(name: &[u8], out: &mut Vec<u8>) -> Result<(), AllocError>
     Ok(())
 }
 
-/// The longest name of either kind at the front, and what is after it.
+/// The name of either kind at the front, read as far as it goes, and what is after it.
 #[tactic(auto, unfolding(crate::specs::Names::comp_at))]
 pub fn read_component(alloc: Global, text: &[u8]) -> Result<(Name, &[u8]), TextFault>
     ensures value { IfOk result (λ x. comp_at text.now ≡ Some (x.0, x.1.now)) }
