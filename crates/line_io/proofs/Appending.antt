@@ -2,7 +2,7 @@
 use Rattle.std.proofs.Common.{◌≡◌, ℕ, ◌+◌, ◌≤◌, List, [], ◌++◌, length, take, drop, refl, sym, ap, subst, ◌∙◌, append_assoc, arith, inl, inr, Option, Some, None}
 use Rattle.std.proofs.lemmas.List.{append-nil, length-append, take_all, take-append-le}
 use Rattle.std.proofs.Math.Seq.{take-append-add, take-add}
-use Rattle.line_io.specs.Streams.{Appends, AppendsFront, Puts, Rose}
+use Rattle.line_io.specs.Streams.{Appends, AppendsFront, AppendsPart, Puts, Rose}
 
 -- one call more puts more of the bytes
 pub Appends-more : (old mid new : Option (List ℕ)) (bytes part : List ℕ) (at n : ℕ) → Appends old mid (take at bytes) → part ≡ drop at bytes → Puts mid new part n
@@ -33,6 +33,19 @@ Front-of old new a b h = (h.0, omega (arith, h.1, length-append a b), subst (λ 
 -- all of these bytes, and then a front of those
 pub Front-then : (old mid new : Option (List ℕ)) (a b : List ℕ) → Appends old mid a → AppendsFront mid new b → AppendsFront old new (a ++ b)
 Front-then old mid new a b p h =
+    (length a + h.0, omega (arith, h.1, length-append a b), subst (λ (x : List ℕ). Appends old new x) (sym (take-append-add a b h.0)) (Appends-then old mid new a (take h.0 b) p h.2))
+
+-- not all of the bytes are a front of them
+pub Part-front : (old new : Option (List ℕ)) (a : List ℕ) → AppendsPart old new a → AppendsFront old new a
+Part-front old new a h = (h.0, omega (arith, h.1), h.2)
+
+-- not all of these bytes, and so not all of a longer list
+pub Part-of : (old new : Option (List ℕ)) (a b : List ℕ) → AppendsPart old new a → AppendsPart old new (a ++ b)
+Part-of old new a b h = (h.0, omega (arith, h.1, length-append a b), subst (λ (x : List ℕ). Appends old new x) (sym (take-append-le h.0 a b (omega (arith, h.1)))) h.2)
+
+-- all of these bytes, and then not all of those
+pub Part-then : (old mid new : Option (List ℕ)) (a b : List ℕ) → Appends old mid a → AppendsPart mid new b → AppendsPart old new (a ++ b)
+Part-then old mid new a b p h =
     (length a + h.0, omega (arith, h.1, length-append a b), subst (λ (x : List ℕ). Appends old new x) (sym (take-append-add a b h.0)) (Appends-then old mid new a (take h.0 b) p h.2))
 
 -- a count that rose since a moment rose since each earlier one, and has risen ever after

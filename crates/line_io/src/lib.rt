@@ -15,6 +15,3 @@ pub use memory::{MemSink, MemSource};
 pub use next::{LineFault, Next};
 pub use progress::progress_of_calls;
 pub use streams::{Failed, Sink, Source, put_all, put_line, writing_in_turn};
-
-#[cfg(test)]
-mod tests;

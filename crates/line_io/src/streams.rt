@@ -1,5 +1,5 @@
 ghost use Rattle.std.specs.Prelude.{◌≡◌, ◌<◌, ◌≤◌, ◌++◌, [], ◌∷◌, ℕ, List, Option, length, IfOk, OnOk, OnErr};
-ghost use Rattle.line_io.specs.Streams.{Rose, Takes, Puts, Appends, AppendsFront};
+ghost use Rattle.line_io.specs.Streams.{Rose, Takes, Puts, Appends, AppendsFront, AppendsPart};
 
 /// A fault of the outside: a call of a source or a sink that did nothing.
 #[derive(Clone, Copy, Debug, PartialEq, Eq)]
@@ -42,10 +42,10 @@ pub trait Sink: Drop {
         ensures cause { OnErr result (Rose (faults self.old) (faults self.new)) };
 }
 
-/// Writes all of the bytes, in as many calls as it takes. After a fault a front of them was written.
+/// Writes all of the bytes, in as many calls as it takes. After a fault a front of them was written, and not all.
 pub fn put_all<K: Sink>(sink: &mut K, bytes: &[u8]) -> Result<(), Failed>
     ensures ok { OnOk result (Appends (K.held sink.old) (K.held sink.new) bytes.now) }
-    ensures err { OnErr result (AppendsFront (K.held sink.old) (K.held sink.new) bytes.now) }
+    ensures err { OnErr result (AppendsPart (K.held sink.old) (K.held sink.new) bytes.now) }
     ensures later { K.faults sink.old ≤ K.faults sink.new }
     ensures cause { OnErr result (Rose (K.faults sink.old) (K.faults sink.new)) }
 {
@@ -59,10 +59,10 @@ pub fn put_all<K: Sink>(sink: &mut K, bytes: &[u8]) -> Result<(), Failed>
     Ok(())
 }
 
-/// Writes the bytes and LF. After a fault a front of these was written.
+/// Writes the bytes and LF. After a fault a front of these was written, and not all.
 pub fn put_line<K: Sink>(sink: &mut K, bytes: &[u8]) -> Result<(), Failed>
     ensures ok { OnOk result (Appends (K.held sink.old) (K.held sink.new) (bytes.now ++ 10 ∷ [])) }
-    ensures err { OnErr result (AppendsFront (K.held sink.old) (K.held sink.new) (bytes.now ++ 10 ∷ [])) }
+    ensures err { OnErr result (AppendsPart (K.held sink.old) (K.held sink.new) (bytes.now ++ 10 ∷ [])) }
     ensures later { K.faults sink.old ≤ K.faults sink.new }
     ensures cause { OnErr result (Rose (K.faults sink.old) (K.faults sink.new)) }
 {
@@ -81,6 +81,9 @@ pub fn writing_in_turn()
         AppendsFront old new a → AppendsFront old new (a ++ b) }
     ensures then_front { (old mid new : Option (List ℕ)) (a b : List ℕ) →
         Appends old mid a → AppendsFront mid new b → AppendsFront old new (a ++ b) }
+    ensures part { (old new : Option (List ℕ)) (a : List ℕ) → AppendsPart old new a → AppendsFront old new a }
+    ensures then_part { (old mid new : Option (List ℕ)) (a b : List ℕ) →
+        Appends old mid a → AppendsPart mid new b → AppendsPart old new (a ++ b) }
     ensures rose { (first before now later : ℕ) →
         first ≤ before → Rose before now → now ≤ later → Rose first later }
 {}
