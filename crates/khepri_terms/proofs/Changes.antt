@@ -111,3 +111,7 @@ with_is new fs is key value small =
       few = says.0;
       short = says.1;
     }
+
+pub empty_is : IsRec []
+unfolding rec_text fields_text
+empty_is = record { fields = tt; rises = refl; few = omega arith; short = omega arith }

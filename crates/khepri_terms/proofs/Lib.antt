@@ -1,6 +1,7 @@
 pub mod Cases
 pub mod Reading
 pub mod Printing
+pub mod NameLengths
 pub mod BytesLaws
 pub mod NamesLaws
 pub mod PathsLaws

@@ -11,3 +11,6 @@ front_then o m n om mn =
 
 pub front_of : (o m n x : List ℕ) → m ≡ o ++ x → take (length m) n ≡ m → take (length o) n ≡ o
 front_of o m n x e mn = front_then o m n (ap (take (length o)) e ∙ take-append_seam o x) mn
+
+pub front_kept : (o m n x : List ℕ) → m ≡ o ++ x → n ≡ m → take (length o) n ≡ o
+front_kept o m n x e nm = ap (take (length o)) (nm ∙ e) ∙ take-append_seam o x

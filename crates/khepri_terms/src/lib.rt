@@ -19,6 +19,3 @@ pub use name::{Kind, MAX_NAME, Name};
 pub use path::{MAX_PATH_TEXT, Path};
 pub use rec::{Field, MAX_FIELDS, MAX_REC_TEXT, Rec};
 pub use scalar::Scalar;
-
-#[cfg(test)]
-mod tests;

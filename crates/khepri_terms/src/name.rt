@@ -1,14 +1,15 @@
-ghost use Rattle.std.specs.Prelude.{◌≡◌, ◌++◌, ◌<◌, ◌≤◌, ◌↔◌, length, IfOk, IsTrue, Ok, Err};
+ghost use Rattle.std.specs.Prelude.{◌≡◌, ◌++◌, ◌<◌, ◌≤◌, ◌↔◌, length, take, IfOk, OnOk, OnErr, IsTrue, Ok, Err, Some, None};
 ghost use Rattle.std.proofs.Common.{rules};
 ghost use Rattle.std.specs.Cmp.{partial_order_from_own_ties};
 ghost use Rattle.std.specs.Cmp.Rules.{comparing, hashing};
 ghost use Rattle.std.specs.Ordering.{as_partial_cmp};
 ghost use Rattle.std.specs.Hash as fed;
-ghost use Rattle.khepri_terms.specs.Names.{IsNameBytes};
+ghost use Rattle.khepri_terms.specs.Names.{IsNameBytes, IsName, comp_text, name_at, named, comp_at};
 ghost use Rattle.khepri_terms.specs.Order.{rank, name_fed, name_cmp, name_eq};
 
 use crate::bytes::Bytes;
-use crate::fault::NameFault;
+use crate::fault::{NameFault, TextFault};
+use crate::texts::{name_len, print_name, read_name};
 use std::alloc::{AllocError, Global};
 use std::cmp::Ordering;
 use std::hash::{Hash, Hasher};
@@ -71,15 +72,27 @@ impl Name {
         Ok(Name { kind, bytes })
     }
 
-    // A name of bytes that were read.
-    pub(crate) fn from_parts(alloc: Global, kind: Kind, bytes: Vec<u8>) -> Name
-        requires { IsNameBytes bytes.items }
-        ensures { result ≡ record { kind = kind; bytes = bytes.items } }
+    /// The name that is spelled at the front, read as far as it goes, and what is after it. A `:` stands before an atom.
+    #[tactic(auto, unfolding(crate::specs::Names::comp_at))]
+    pub fn read(alloc: Global, text: &[u8]) -> Result<(Name, &[u8]), TextFault>
+        ensures value { IfOk result (λ x. comp_at text.now ≡ Some (x.0, x.1.now)) }
+        ensures bad { result ≡ Err TextFault.Bad → comp_at text.now ≡ None }
     {
-        Name {
-            kind,
-            bytes: Bytes::from_vec(alloc, bytes),
+        match text {
+            [] => Err(TextFault::Bad),
+            [b':', rest @ ..] => Name::read_kind(alloc, Kind::Atom, rest),
+            [_, ..] => Name::read_kind(alloc, Kind::Text, text),
         }
+    }
+
+    // The name of this kind whose bytes are spelled at the front, and what is after it.
+    fn read_kind(alloc: Global, kind: Kind, text: &[u8]) -> Result<(Name, &[u8]), TextFault>
+        ensures value { IfOk result (λ x. named kind (name_at text.now) ≡ Some (x.0, x.1.now)) }
+        ensures bad { result ≡ Err TextFault.Bad → named kind (name_at text.now) ≡ None }
+    {
+        let (bytes, rest) = read_name(alloc, text)?;
+        let bytes = Bytes::from_vec(alloc, bytes);
+        Ok((Name { kind, bytes }, rest))
     }
 
     pub fn kind(&self) -> Kind
@@ -93,6 +106,46 @@ impl Name {
         ensures name { IsNameBytes self.now.bytes }
     {
         self.bytes.as_slice()
+    }
+
+    /// Appends the spelling; where memory is wanting, nothing.
+    pub fn print(&self, out: &mut Vec<u8>) -> Result<(), AllocError>
+        ensures ok { OnOk result (out.new.items ≡ out.old.items ++ comp_text self.now) }
+        ensures err { OnErr result (out.new.items ≡ out.old.items) }
+    {
+        let len = out.len();
+        let printed = self.append(out);
+        if printed.is_err() {
+            out.truncate(len);
+        }
+        printed
+    }
+
+    // Appends the spelling; after want of memory what was there before still stands at the front.
+    #[tactic(auto, using(crate::proofs::Printing::front_then))]
+    pub(crate) fn append(&self, out: &mut Vec<u8>) -> Result<(), AllocError>
+        ensures ok { OnOk result (out.new.items ≡ out.old.items ++ comp_text self.now) }
+        ensures front { take (length out.old.items) out.new.items ≡ out.old.items }
+    {
+        match self.kind {
+            Kind::Atom => out.push(b':')?,
+            Kind::Text => {}
+        }
+        print_name(self.bytes(), out)
+    }
+
+    /// How long the spelling is: 1 to 766 bytes.
+    #[tactic(auto, using(crate::proofs::NameLengths::name_short))]
+    pub fn text_len(&self) -> usize
+        ensures len { result ≡ length (comp_text self.now) }
+        ensures name { IsName self.now }
+        ensures small { result ≤ 766 }
+    {
+        let len = name_len(self.bytes());
+        match self.kind {
+            Kind::Atom => len + 1,
+            Kind::Text => len,
+        }
     }
 
     pub fn copy(&self) -> Result<Name, AllocError>

@@ -1,6 +1,5 @@
 //! The forms of numbers.
 ghost use Rattle.std.specs.Prelude.{◌≡◌, ◌++◌, OnOk, OnErr, decimal, Some, None, MatchOption, IfSome, ◌≤◌};
-ghost use Rattle.std.specs.Fmt.{signed_decimal};
 ghost use Rattle.khepri_terms.specs.Numbers.{number_from, number_at, int_at};
 
 use itoa::Buffer;
@@ -61,18 +60,9 @@ pub fn read_int(text: &[u8]) -> Option<(i64, &[u8])>
     }
 }
 
-/// Appends a number.
+/// Appends a number; where memory is wanting, nothing.
 pub fn print_number(number: u64, out: &mut Vec<u8>) -> Result<(), AllocError>
     ensures ok { OnOk result (out.new.items ≡ out.old.items ++ decimal number) }
-    ensures err { OnErr result (out.new.items ≡ out.old.items) }
-{
-    let mut digits = Buffer::new();
-    out.extend_from_slice(digits.format(number).as_bytes())
-}
-
-/// Appends an integer.
-pub fn print_int(number: i64, out: &mut Vec<u8>) -> Result<(), AllocError>
-    ensures ok { OnOk result (out.new.items ≡ out.old.items ++ signed_decimal number) }
     ensures err { OnErr result (out.new.items ≡ out.old.items) }
 {
     let mut digits = Buffer::new();

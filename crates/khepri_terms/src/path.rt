@@ -13,7 +13,6 @@ ghost use Rattle.std.specs.Hash as fed;
 
 use crate::fault::TextFault;
 use crate::name::Name;
-use crate::texts::{component_len, print_component, read_component};
 use std::alloc::{AllocError, Global};
 use std::cmp::Ordering;
 use std::hash::{Hash, Hasher};
@@ -204,15 +203,23 @@ fn print_names(names: &[Name], out: &mut Vec<u8>) -> Result<(), AllocError>
     Ok(())
 }
 
-// Each name behind a slash.
+// A slash and the name.
 #[tactic(auto, using(crate::proofs::Printing::front_then))]
+fn print_step(name: &Name, out: &mut Vec<u8>) -> Result<(), AllocError>
+    ensures ok { OnOk result (out.new.items ≡ out.old.items ++ step_text name.now) }
+    ensures front { take (length out.old.items) out.new.items ≡ out.old.items }
+{
+    out.push(b'/')?;
+    name.append(out)
+}
+
+// Each name behind a slash.
 fn print_steps(names: &[Name], out: &mut Vec<u8>) -> Result<(), AllocError>
     ensures ok { OnOk result (out.new.items ≡ out.old.items ++ flat_map step_text names.now) }
     ensures front { take (length out.old.items) out.new.items ≡ out.old.items }
 {
     for name in names {
-        out.push(b'/')?;
-        print_component(name, out)?;
+        print_step(name, out)?;
     }
     Ok(())
 }
@@ -224,7 +231,7 @@ fn read_step(alloc: Global, text: &[u8]) -> Result<(Name, &[u8]), TextFault>
     ensures bad { result ≡ Err TextFault.Bad → step_at text.now ≡ None }
 {
     match text {
-        [b'/', rest @ ..] => read_component(alloc, rest),
+        [b'/', rest @ ..] => Name::read(alloc, rest),
         _ => Err(TextFault::Bad),
     }
 }
@@ -265,7 +272,7 @@ fn steps_len(names: &[Name]) -> usize
 {
     let mut len: usize = 0;
     for name in names {
-        len = len.saturating_add(component_len(name).saturating_add(1));
+        len = len.saturating_add(name.text_len().saturating_add(1));
     }
     len
 }

@@ -1,4 +1,4 @@
-ghost use Rattle.std.specs.Prelude.{◌≡◌, ◌++◌, ◌↔◌, IsTrue, ◌-◌, ◌+◌, ◌<◌, ◌≤◌, length, take, drop, slice_get, IfOk, OnOk, true, false, OnErr, Err, Some, None, MatchOption};
+ghost use Rattle.std.specs.Prelude.{◌≡◌, [], ◌∷◌, ◌++◌, ◌↔◌, IsTrue, ◌-◌, ◌+◌, ◌<◌, ◌≤◌, length, take, drop, slice_get, IfOk, OnOk, true, false, OnErr, Err, Some, None, MatchOption};
 ghost use Rattle.std.proofs.Common.{rules};
 ghost use Rattle.std.specs.Cmp.{partial_equiv_from_equiv, po};
 ghost use Rattle.std.specs.Ordering.{as_partial_cmp};
@@ -40,12 +40,6 @@ impl Field {
             key: self.key.copy()?,
             value: self.value.copy()?,
         })
-    }
-
-    pub fn is_same(&self, other: &Field) -> bool
-        ensures { IsTrue result ↔ (self.now ≡ other.now) }
-    {
-        self == other
     }
 }
 
@@ -118,6 +112,16 @@ impl Model for Rec {
 }
 
 impl Rec {
+    /// The record with no field.
+    pub fn empty(alloc: Global) -> Rec
+        ensures { result ≡ [] }
+    {
+        Rec {
+            fields: Vec::new(alloc),
+            alloc,
+        }
+    }
+
     /// The record that is spelled at the front, and what is after it.
     pub fn read(alloc: Global, text: &[u8]) -> Result<(Rec, &[u8]), TextFault>
         ensures value { IfOk result (λ x. rec_at text.now ≡ Some (x.0, x.1.now)) }
@@ -170,6 +174,16 @@ impl Rec {
             out.truncate(len);
         }
         printed
+    }
+
+    /// How long the spelling is.
+    #[tactic(auto, unfolding(crate::specs::Records::rec_text))]
+    pub fn text_len(&self) -> usize
+        ensures len { result ≡ length (rec_text self.now) }
+        ensures is { IsRec self.now }
+        ensures small { result ≤ 4096 }
+    {
+        fields_len(self.fields.as_slice()) + 2
     }
 
     /// The value of a key.
@@ -434,24 +448,23 @@ fn add_fields(fields: &[Field], out: &mut Vec<Field>) -> Result<(), AllocError>
     Ok(())
 }
 
+// Adds the new field and copies of the fields behind it.
+fn put_before(fields: &[Field], new: Field, out: &mut Vec<Field>) -> Result<(), AllocError>
+    ensures { OnOk result (out.new.items ≡ out.old.items ++ new ∷ fields.now) }
+{
+    out.push(new)?;
+    add_fields(fields, out)
+}
+
 // Adds copies of the fields with the new one at its place, and at that of its key.
 fn put_field(fields: &[Field], new: Field, out: &mut Vec<Field>) -> Result<(), AllocError>
     ensures { OnOk result (out.new.items ≡ out.old.items ++ with_field new fields.now) }
 {
     match fields {
-        [] => {
-            out.push(new)?;
-            Ok(())
-        }
+        [] => put_before(fields, new, out),
         [first, rest @ ..] => match new.key.cmp(&first.key) {
-            Ordering::Less => {
-                out.push(new)?;
-                add_fields(fields, out)
-            }
-            Ordering::Equal => {
-                out.push(new)?;
-                add_fields(rest, out)
-            }
+            Ordering::Less => put_before(fields, new, out),
+            Ordering::Equal => put_before(rest, new, out),
             Ordering::Greater => {
                 out.push(first.copy()?)?;
                 put_field(rest, new, out)

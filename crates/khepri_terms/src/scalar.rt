@@ -1,4 +1,4 @@
-ghost use Rattle.std.specs.Prelude.{◌≡◌, ◌++◌, ◌↔◌, IsTrue, length, take, IfOk, OnOk, Err, Some, None};
+ghost use Rattle.std.specs.Prelude.{◌≡◌, ◌++◌, ◌↔◌, IsTrue, length, take, IfOk, OnOk, OnErr, Err, Some, None};
 ghost use Rattle.std.proofs.Common.{rules};
 ghost use Rattle.std.specs.Cmp.{partial_equiv_from_equiv, po};
 ghost use Rattle.std.specs.Ordering.{as_partial_cmp};
@@ -44,9 +44,22 @@ impl Scalar {
         }
     }
 
-    /// Appends the spelling; after want of memory what was there before still stands at the front.
+    /// Appends the spelling; where memory is wanting, nothing.
+    pub fn print(&self, out: &mut Vec<u8>) -> Result<(), AllocError>
+        ensures ok { OnOk result (out.new.items ≡ out.old.items ++ scalar_text self.now) }
+        ensures err { OnErr result (out.new.items ≡ out.old.items) }
+    {
+        let len = out.len();
+        let printed = self.append(out);
+        if printed.is_err() {
+            out.truncate(len);
+        }
+        printed
+    }
+
+    // Appends the spelling; after want of memory what was there before still stands at the front.
     #[tactic(auto, unfolding(crate::specs::Records::scalar_text), using(crate::proofs::Printing::front_then))]
-    pub fn append(&self, out: &mut Vec<u8>) -> Result<(), AllocError>
+    pub(crate) fn append(&self, out: &mut Vec<u8>) -> Result<(), AllocError>
         ensures ok { OnOk result (out.new.items ≡ out.old.items ++ scalar_text self.now) }
         ensures front { take (length out.old.items) out.new.items ≡ out.old.items }
     {

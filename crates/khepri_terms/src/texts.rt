@@ -1,13 +1,12 @@
-//! The forms that larger texts are made of: bytes, names and names of either kind. A reader gives the value at the
-//! front and what is after it, a printer appends the spelling, and after want of memory what was there before still
-//! stands at the front.
+//! The forms that larger texts are made of: one byte, bytes, and the bytes of a name. A reader gives the value at the
+//! front and what is after it, a printer appends the spelling. After want of memory a printer of this crate alone
+//! may leave a part behind what was there before.
 ghost use Rattle.std.specs.Prelude.{◌≡◌, ◌++◌, ◌<◌, take, length, Some, None, MatchOption, IfSome, OnOk, OnErr, IfOk, Err};
 ghost use Rattle.khepri_terms.specs.Lengths.{capped};
-ghost use Rattle.khepri_terms.specs.Names.{IsNameBytes, is_dots, name_text, dots_at, undotted, name_at, comp_text, comp_at};
+ghost use Rattle.khepri_terms.specs.Names.{IsNameBytes, is_dots, name_text, dots_at, undotted, name_at};
 ghost use Rattle.khepri_terms.specs.Bytes.{is_plain, byte_text, bytes_text, hex_value, escape_at, byte_at, bytes_at};
 
 use crate::fault::TextFault;
-use crate::name::{Kind, Name};
 use percent_encoding::percent_encode_byte;
 use std::alloc::{AllocError, Global};
 
@@ -50,9 +49,9 @@ fn read_escape(text: &[u8]) -> Option<(u8, &[u8])>
     }
 }
 
-// The byte that is spelled at the front, and what is after it.
+/// The byte that is spelled at the front, and what is after it.
 #[tactic(auto, unfolding(crate::specs::Bytes::byte_at))]
-fn read_byte(text: &[u8]) -> Option<(u8, &[u8])>
+pub fn read_byte(text: &[u8]) -> Option<(u8, &[u8])>
     ensures { MatchOption result (byte_at text.now ≡ None) (λ x. byte_at text.now ≡ Some (x.0, x.1.now)) }
 {
     match text {
@@ -69,8 +68,12 @@ fn read_byte(text: &[u8]) -> Option<(u8, &[u8])>
     }
 }
 
-/// As many bytes as are spelled at the front, at most `max`, and what is after them.
-pub fn read_bytes(alloc: Global, text: &[u8], max: usize) -> Result<(Vec<u8>, &[u8]), AllocError>
+// As many bytes as are spelled at the front, at most `max`, and what is after them.
+pub(crate) fn read_bytes(
+    alloc: Global,
+    text: &[u8],
+    max: usize,
+) -> Result<(Vec<u8>, &[u8]), AllocError>
     ensures { IfOk result (λ x. bytes_at max text.now ≡ (x.0.items, x.1.now)) }
 {
     let mut bytes = Vec::new(alloc);
@@ -87,10 +90,11 @@ pub fn read_bytes(alloc: Global, text: &[u8], max: usize) -> Result<(Vec<u8>, &[
     Ok((bytes, rest))
 }
 
+/// Appends the spelling of one byte; where memory is wanting, nothing.
 #[tactic(auto, unfolding(crate::specs::Bytes::byte_text))]
-fn print_byte(b: u8, out: &mut Vec<u8>) -> Result<(), AllocError>
+pub fn print_byte(b: u8, out: &mut Vec<u8>) -> Result<(), AllocError>
     ensures ok { OnOk result (out.new.items ≡ out.old.items ++ byte_text b) }
-    ensures front { take (length out.old.items) out.new.items ≡ out.old.items }
+    ensures err { OnErr result (out.new.items ≡ out.old.items) }
 {
     if is_plain_byte(b) {
         out.push(b)?;
@@ -100,9 +104,8 @@ fn print_byte(b: u8, out: &mut Vec<u8>) -> Result<(), AllocError>
     Ok(())
 }
 
-/// Appends the spelling of bytes.
-#[tactic(auto, using(crate::proofs::Printing::front_then))]
-pub fn print_bytes(bytes: &[u8], out: &mut Vec<u8>) -> Result<(), AllocError>
+// Appends the spelling of bytes.
+pub(crate) fn print_bytes(bytes: &[u8], out: &mut Vec<u8>) -> Result<(), AllocError>
     ensures ok { OnOk result (out.new.items ≡ out.old.items ++ bytes_text bytes.now) }
     ensures front { take (length out.old.items) out.new.items ≡ out.old.items }
 {
@@ -143,9 +146,9 @@ fn read_undotted(alloc: Global, text: &[u8]) -> Result<(Vec<u8>, &[u8]), TextFau
     Ok((bytes, rest))
 }
 
-/// The bytes of the name at the front, read as far as it goes, and what is after it.
+// The bytes of the name at the front, read as far as it goes, and what is after it.
 #[tactic(auto, unfolding(crate::specs::Names::name_at))]
-pub fn read_name(alloc: Global, text: &[u8]) -> Result<(Vec<u8>, &[u8]), TextFault>
+pub(crate) fn read_name(alloc: Global, text: &[u8]) -> Result<(Vec<u8>, &[u8]), TextFault>
     ensures value { IfOk result (λ x. name_at text.now ≡ Some (x.0.items, x.1.now)) }
     ensures name { IfOk result (λ x. IsNameBytes x.0.items) }
     ensures bad { result ≡ Err TextFault.Bad → name_at text.now ≡ None }
@@ -156,9 +159,9 @@ pub fn read_name(alloc: Global, text: &[u8]) -> Result<(Vec<u8>, &[u8]), TextFau
     }
 }
 
-/// Appends the spelling of a name's bytes.
+// Appends the spelling of a name's bytes.
 #[tactic(auto, unfolding(crate::specs::Names::name_text))]
-pub fn print_name(name: &[u8], out: &mut Vec<u8>) -> Result<(), AllocError>
+pub(crate) fn print_name(name: &[u8], out: &mut Vec<u8>) -> Result<(), AllocError>
     ensures ok { OnOk result (out.new.items ≡ out.old.items ++ name_text name.now) }
     ensures front { take (length out.old.items) out.new.items ≡ out.old.items }
 {
@@ -170,47 +173,16 @@ pub fn print_name(name: &[u8], out: &mut Vec<u8>) -> Result<(), AllocError>
     Ok(())
 }
 
-/// The name of either kind at the front, read as far as it goes, and what is after it.
-#[tactic(auto, unfolding(crate::specs::Names::comp_at))]
-pub fn read_component(alloc: Global, text: &[u8]) -> Result<(Name, &[u8]), TextFault>
-    ensures value { IfOk result (λ x. comp_at text.now ≡ Some (x.0, x.1.now)) }
-    ensures bad { result ≡ Err TextFault.Bad → comp_at text.now ≡ None }
-{
-    match text {
-        [] => Err(TextFault::Bad),
-        [b':', rest @ ..] => {
-            let (bytes, rest) = read_name(alloc, rest)?;
-            Ok((Name::from_parts(alloc, Kind::Atom, bytes), rest))
-        }
-        [_, ..] => {
-            let (bytes, rest) = read_name(alloc, text)?;
-            Ok((Name::from_parts(alloc, Kind::Text, bytes), rest))
-        }
-    }
-}
-
-/// Appends the spelling of a name of either kind.
-#[tactic(auto, using(crate::proofs::Printing::front_then))]
-pub fn print_component(name: &Name, out: &mut Vec<u8>) -> Result<(), AllocError>
-    ensures ok { OnOk result (out.new.items ≡ out.old.items ++ comp_text name.now) }
-    ensures front { take (length out.old.items) out.new.items ≡ out.old.items }
-{
-    match name.kind() {
-        Kind::Atom => out.push(b':')?,
-        Kind::Text => {}
-    }
-    print_name(name.bytes(), out)
-}
-
+/// How long the spelling of one byte is.
 #[tactic(auto, unfolding(crate::specs::Bytes::byte_text, percent_encoding::specs::Percent::percent_encode_byte))]
-fn byte_len(b: u8) -> usize
+pub fn byte_len(b: u8) -> usize
     ensures { result ≡ length (byte_text b) }
 {
     if is_plain_byte(b) { 1 } else { 3 }
 }
 
-/// How long the spelling of bytes is, at most `usize::MAX`.
-pub fn bytes_len(bytes: &[u8]) -> usize
+// How long the spelling of bytes is, at most `usize::MAX`.
+pub(crate) fn bytes_len(bytes: &[u8]) -> usize
     ensures { result ≡ capped (length (bytes_text bytes.now)) }
 {
     let mut len: usize = 0;
@@ -220,9 +192,9 @@ pub fn bytes_len(bytes: &[u8]) -> usize
     len
 }
 
-/// How long the spelling of a name's bytes is, at most `usize::MAX`.
+// How long the spelling of a name's bytes is, at most `usize::MAX`.
 #[tactic(auto, unfolding(crate::specs::Names::name_text))]
-pub fn name_len(name: &[u8]) -> usize
+pub(crate) fn name_len(name: &[u8]) -> usize
     ensures { result ≡ capped (length (name_text name.now)) }
 {
     match name {
@@ -230,15 +202,4 @@ pub fn name_len(name: &[u8]) -> usize
         [b'.', b'.'] => 4,
         _ => bytes_len(name),
     }
-}
-
-/// How long the spelling of a name of either kind is, at most `usize::MAX`.
-pub fn component_len(name: &Name) -> usize
-    ensures { result ≡ capped (length (comp_text name.now)) }
-{
-    let mark: usize = match name.kind() {
-        Kind::Atom => 1,
-        Kind::Text => 0,
-    };
-    mark.saturating_add(name_len(name.bytes()))
 }
