@@ -3,7 +3,6 @@ use Rattle.std.proofs.Common.{◌≡◌, inl, inr, ℕ, suc, ◌+◌, ◌<◌, �
 use Rattle.std.specs.List.{AllByRecursion}
 use Rattle.std.proofs.lemmas.List.{append-nil, length-append}
 use Rattle.khepri_types.specs.declared.command.Command.{Command}
-use Rattle.khepri_types.specs.declared.command.Command.TheVariants.{Put}
 use Rattle.khepri_types.specs.declared.command.Line.TheVariants as line
 use Rattle.khepri_types.specs.declared.out.EntryText.{EntryText}
 use Rattle.khepri_types.specs.declared.out.EntryText.TheVariants as text
@@ -11,11 +10,15 @@ use Rattle.khepri_types.specs.declared.out.Reason.{Reason}
 use Rattle.khepri_types.specs.declared.out.OutLine.{OutLine}
 use Rattle.khepri_types.specs.declared.out.OutLine.TheVariants as out
 use Rattle.khepri_types.specs.Exec.{State, opening_state, exec_command}
+use Rattle.khepri_types.specs.Spelled.{IsCommand}
 use Rattle.khepri_types.specs.Reading.{line_at}
 use Rattle.khepri_types.specs.History.{history, run_from}
 use Rattle.khepri_types.specs.Legal.{named, input_line, AtEach, MayRefuse}
 use Rattle.khepri_types.specs.Calm.{answer, answers}
 use Rattle.khepri_types.proofs.Outputs.{All-append, All-weaker, NamesBelow, NamesFrom, history-append, run_from-append, slice_get-behind}
+use Rattle.khepri_types.proofs.After.{position-after}
+use Rattle.khepri_types.proofs.Spelling.{line_at-takes}
+use Rattle.khepri_types.proofs.Payloads.{AllSpelled, spelled-after}
 use Rattle.khepri_types.proofs.Answering.{answer-is, answers-more, answers-none}
 
 -- these lines were written before line l is answered at state S, and these input lines are left
@@ -26,6 +29,7 @@ pub record Amid (input : List (List ℕ)) (before : List OutLine) (l : ℕ) (S :
   pub state : run_from opening_state (history before) ≡ S
   pub position : S.position ≡ length (history before)
   pub few : S.position < l
+  pub payloads : AllSpelled S.tree
   pub early : AllByRecursion (NamesBelow l) before
 
 abbrev pub entry_line : ℕ → State → Command → OutLine
@@ -51,9 +55,6 @@ names_more l before x early e = All-append (NamesBelow (l + 1)) before (x ∷ []
 history-last : (before : List OutLine) (x : OutLine) (es : List EntryText) → history (x ∷ []) ≡ es → history (before ++ x ∷ []) ≡ history before ++ es
 history-last before x es e = history-append before (x ∷ []) ∙ ap (λ (fs : List EntryText). history before ++ fs) e
 
-position-more : (S : State) (c : Command) → (exec_command S c).1.position ≡ S.position + 1
-position-more S (Put p x) = refl
-
 -- a refusal is written
 pub amid-refused : (input : List (List ℕ)) (before : List OutLine) (l : ℕ) (S : State) (bytes : List ℕ) (rest : List (List ℕ)) (r : Reason)
     → Amid input before l S (bytes ∷ rest) → Amid input (before ++ out.Refused l r ∷ []) (l + 1) S rest
@@ -66,13 +67,14 @@ amid-refused input before l S bytes rest r a =
       state = ap (run_from opening_state) same ∙ a.state;
       position = a.position ∙ ap length (sym same);
       few = omega (arith, a.few);
+      payloads = a.payloads;
       early = names_more l before (out.Refused l r) a.early refl;
     }
 
 -- an entry and its reply are written
 pub amid-entered : (input : List (List ℕ)) (before : List OutLine) (l : ℕ) (S : State) (bytes : List ℕ) (rest : List (List ℕ)) (c : Command)
-    → Amid input before l S (bytes ∷ rest) → Amid input ((before ++ entry_line l S c ∷ []) ++ reply_line l S c ∷ []) (l + 1) (exec_command S c).1 rest
-amid-entered input before l S bytes rest c a =
+    → IsCommand c → Amid input before l S (bytes ∷ rest) → Amid input ((before ++ entry_line l S c ∷ []) ++ reply_line l S c ∷ []) (l + 1) (exec_command S c).1 rest
+amid-entered input before l S bytes rest c is a =
     let one = before ++ entry_line l S c ∷ [] in
     let two = one ++ reply_line l S c ∷ [] in
     let told : history two ≡ history before ++ text.Command c ∷ [] =
@@ -83,8 +85,9 @@ amid-entered input before l S bytes rest c a =
       whole = a.whole ∙ sym (append_assoc a.done (bytes ∷ []) rest);
       number = omega (arith, a.number, length-append a.done (bytes ∷ []));
       state = ap (run_from opening_state) told ∙ (run_from-append (history before) (text.Command c ∷ []) opening_state ∙ ap (λ (U : State). (exec_command U c).1) a.state);
-      position = omega (arith, position-more S c, a.position, ap length told, length-append (history before) (text.Command c ∷ []));
-      few = omega (arith, position-more S c, a.few);
+      position = omega (arith, position-after S c, a.position, ap length told, length-append (history before) (text.Command c ∷ []));
+      few = omega (arith, position-after S c, a.few);
+      payloads = spelled-after S c is a.payloads;
       early = All-append (NamesBelow (l + 1)) one (reply_line l S c ∷ []) first (omega arith, tt);
     }
 
@@ -114,6 +117,7 @@ pub record AtRefusal (input : List (List ℕ)) (before : List OutLine) (l : ℕ)
 pub record AtEntry (input : List (List ℕ)) (before : List OutLine) (l : ℕ) (S : State) (bytes : List ℕ) (rest : List (List ℕ)) (k : ℕ) (c : Command) : Type 0 where
   pub amid : Amid input before l S (bytes ∷ rest)
   pub read : line_at bytes ≡ Some (line.Command k c)
+  pub spelled : IsCommand c
 
 -- a rule holds at each kind of line that a session writes for an input line
 pub record IsKept (input : List (List ℕ)) (R : List OutLine → OutLine → List OutLine → Type 0) : Type 0 where
@@ -145,15 +149,16 @@ kept input R rule (bytes ∷ rest) before l S a =
           let k = f.0 in
           let c = f.1 in
           let is = f.2 in
+          let spelled : IsCommand c = (line_at-takes bytes (line.Command k c) is.read).1.1 in
           let next = (exec_command S c).1 in
           let lines : (answer l S bytes).0 ++ answers (l + 1) (answer l S bytes).1 rest ≡ entry_line l S c ∷ reply_line l S c ∷ answers (l + 1) (exec_command S c).1 rest =
           ap (λ (x : List OutLine). x ++ answers (l + 1) (answer l S bytes).1 rest) is.lines ∙ ap (λ (U : State). entry_line l S c ∷ reply_line l S c ∷ answers (l + 1) U rest) is.state in
-          let at : AtEntry input before l S bytes rest k c = record { amid = a; read = is.read } in
+          let at : AtEntry input before l S bytes rest k c = record { amid = a; read = is.read; spelled = spelled } in
           subst (AtEach R before) (sym lines) (
             rule.entry before l S bytes rest k c at,
             (
               rule.reply before l S bytes rest k c at,
-              kept input R rule rest ((before ++ entry_line l S c ∷ []) ++ reply_line l S c ∷ []) (l + 1) next (amid-entered input before l S bytes rest c a),
+              kept input R rule rest ((before ++ entry_line l S c ∷ []) ++ reply_line l S c ∷ []) (l + 1) next (amid-entered input before l S bytes rest c spelled a),
             ),
           )
     ])

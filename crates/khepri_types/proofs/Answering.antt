@@ -1,5 +1,5 @@
 -- What the answer to one line is: one refusal, or an entry and its reply.
-use Rattle.std.proofs.Common.{◌≡◌, ◌⊎◌, inl, inr, ℕ, ◌+◌, ◌<◌, ◌≤◌, List, [], ◌∷◌, ◌++◌, length, refl, ap, Option, Some, None}
+use Rattle.std.proofs.Common.{◌≡◌, ◌⊎◌, inl, inr, ℕ, ◌+◌, ◌<◌, ◌≤◌, Bool, cond, ltb, List, [], ◌∷◌, ◌++◌, length, refl, ap, ◌∙◌, Option, Some, None}
 use Rattle.std.proofs.lemmas.Bool.{cases_lt, lt-ltb, le-ltb}
 use Rattle.khepri_types.specs.declared.limits.TheConstants.{MAX_LINE_BYTES}
 use Rattle.khepri_types.specs.declared.command.Command.{Command}
@@ -7,13 +7,13 @@ use Rattle.khepri_types.specs.declared.command.Line.{Line}
 use Rattle.khepri_types.specs.declared.command.Line.TheVariants as line
 use Rattle.khepri_types.specs.declared.out.EntryText.TheVariants as text
 use Rattle.khepri_types.specs.declared.out.Reason.{Reason}
-use Rattle.khepri_types.specs.declared.out.Reason.TheVariants.{TooLong, BadLine}
+use Rattle.khepri_types.specs.declared.out.Reason.TheVariants.{TooLong, BadLine, NoNode}
 use Rattle.khepri_types.specs.declared.out.OutLine.{OutLine}
 use Rattle.khepri_types.specs.declared.out.OutLine.TheVariants as out
 use Rattle.khepri_types.specs.Exec.{State, exec_command}
 use Rattle.khepri_types.specs.Reading.{line_at}
-use Rattle.khepri_types.specs.Legal.{input_line, MayRefuse}
-use Rattle.khepri_types.specs.Calm.{answer_line, answer, answers}
+use Rattle.khepri_types.specs.Legal.{input_line, read_line, MayRefuse}
+use Rattle.khepri_types.specs.Calm.{answer_command, answer_line, answer, answers}
 
 -- the line is refused
 pub record IsRefusal (l : ℕ) (S : State) (bytes : List ℕ) (r : Reason) : Type 0 where
@@ -21,7 +21,7 @@ pub record IsRefusal (l : ℕ) (S : State) (bytes : List ℕ) (r : Reason) : Typ
   pub state : (answer l S bytes).1 ≡ S
   pub may : (input : List (List ℕ)) → input_line input l ≡ Some bytes → MayRefuse input l r
 
--- the line is a command, which is entered and answered
+-- the line is a command to the one node, which is entered and answered
 pub record IsEntered (l : ℕ) (S : State) (bytes : List ℕ) (k : ℕ) (c : Command) : Type 0 where
   pub lines : (answer l S bytes).0 ≡ out.Entry (S.position + 1) l (text.Command c) ∷ out.Reply l (S.position + 1) (exec_command S c).0 ∷ []
   pub state : (answer l S bytes).1 ≡ (exec_command S c).1
@@ -49,13 +49,23 @@ answers-none l S = refl
 abbrev Pair : Type 0
 Pair = List OutLine × State
 
+abbrev refusal : ℕ → State → Reason → Pair
+refusal l S r = (out.Refused l r ∷ [], S)
+
 is_answer : (l : ℕ) (S : State) (bytes : List ℕ) (read : Option Line) → length bytes ≤ MAX_LINE_BYTES → line_at bytes ≡ read → IsAnswer l S bytes
 is_answer l S bytes None le e =
     let short = answer-short l S bytes None le e in
     inl (BadLine, record { lines = ap (λ (x : Pair). x.0) short; state = ap (λ (x : Pair). x.1) short; may = λ input is. (bytes, is, le, e) })
 is_answer l S bytes (Some (line.Command k c)) le e =
-    let short = answer-short l S bytes (Some (line.Command k c)) le e in
-    inr (k, c, record { lines = ap (λ (x : Pair). x.0) short; state = ap (λ (x : Pair). x.1) short; read = e })
+    let short : answer l S bytes ≡ cond (ltb 1 k) (refusal l S NoNode) (answer_command l S c) = answer-short l S bytes (Some (line.Command k c)) le e in
+    elim (cases_lt 1 k) as (λ _. IsAnswer l S bytes) [
+      | inl more ↦
+          let no : answer l S bytes ≡ refusal l S NoNode = short ∙ ap (λ (b : Bool). cond b (refusal l S NoNode) (answer_command l S c)) (lt-ltb 1 k more) in
+          inl (NoNode, record { lines = ap (λ (x : Pair). x.0) no; state = ap (λ (x : Pair). x.1) no; may = λ input is. (line.Command k c, ap read_line is ∙ e, tt) })
+      | inr one ↦
+          let yes : answer l S bytes ≡ answer_command l S c = short ∙ ap (λ (b : Bool). cond b (refusal l S NoNode) (answer_command l S c)) (le-ltb 1 k one) in
+          inr (k, c, record { lines = ap (λ (x : Pair). x.0) yes; state = ap (λ (x : Pair). x.1) yes; read = e })
+    ]
 
 -- each line has one of the two answers
 pub answer-is : (l : ℕ) (S : State) (bytes : List ℕ) → IsAnswer l S bytes

@@ -1,41 +1,86 @@
 -- A session of one node is legal, rule by rule.
-use Rattle.std.proofs.Common.{◌≡◌, ◌<◌, inl, inr, ℕ, ◌+◌, ◌≤◌, List, [], ◌∷◌, length, refl, sym, ap, subst, ◌∙◌, arith, Option, Some}
-use Rattle.std.specs.FinMap.{get}
-use Rattle.khepri_types.specs.declared.limits.TheConstants.{MAX_NUMBER}
+use Rattle.std.proofs.Common.{◌≡◌, ◌<◌, inl, inr, ℕ, ◌+◌, ◌-◌, ◌≤◌, List, [], ◌∷◌, length, refl, sym, ap, subst, ◌∙◌, arith, Option, Some, None}
+use Rattle.std.specs.Prelude.{IsTrue}
+use Rattle.std.specs.FinMap.{get, len}
+use Rattle.khepri_terms.specs.Terms.{NameText}
+use Rattle.khepri_types.specs.declared.limits.TheConstants.{MAX_NUMBER, MAX_TREE_NODES}
 use Rattle.khepri_types.specs.declared.command.Command.{Command}
-use Rattle.khepri_types.specs.declared.command.Command.TheVariants.{Put}
+use Rattle.khepri_types.specs.declared.node.Node.{Node}
+use Rattle.khepri_types.specs.declared.node.Payload.{Payload}
+use Rattle.khepri_types.specs.declared.reply.Reply.{Reply}
+use Rattle.khepri_types.specs.declared.reply.Reply.TheVariants as reply
 use Rattle.khepri_types.specs.declared.command.Line.TheVariants as line
 use Rattle.khepri_types.specs.declared.out.EntryText.TheVariants as text
 use Rattle.khepri_types.specs.declared.out.OutLine.{OutLine}
 use Rattle.khepri_types.specs.declared.out.OutLine.TheVariants as out
-use Rattle.khepri_types.specs.Tree.{set, end_node}
-use Rattle.khepri_types.specs.Exec.{State, opening_state, exec_command, pv_of}
+use Rattle.khepri_types.specs.Tree.{Tree, set, end_node}
+use Rattle.khepri_types.specs.Drop.{drop}
+use Rattle.khepri_types.specs.Sizes.{kids, fits}
+use Rattle.khepri_types.specs.Exec.{State, opening_state, pv_of, shown, exec_command}
 use Rattle.khepri_types.specs.Spelled.{IsNumber, IsReply, HasSpelling}
 use Rattle.khepri_types.specs.Reading.{line_at}
 use Rattle.khepri_types.specs.History.{empty_opening, history, run_from}
 use Rattle.khepri_types.specs.Legal.{read_line, command_in, command_of, named, AtEach, Numbered, Carried, Explained, Answered, Awaited, Lost, Shown, Refused, Once, Rising, OneLeader, Legal}
 use Rattle.khepri_types.specs.Calm.{answers, calm}
 use Rattle.khepri_types.proofs.Trees.{set-at_path}
-use Rattle.khepri_types.proofs.Spelling.{reads_commands}
+use Rattle.khepri_types.proofs.After.{IsRefusing, met}
+use Rattle.khepri_types.proofs.Fitting.{fits-history, few_nodes, kids-le}
+use Rattle.khepri_types.proofs.Payloads.{AllSpelled, spelled-opening}
 use Rattle.khepri_types.proofs.Versions.{IsWithin, AllWithin, within-set, within-history}
 use Rattle.khepri_types.proofs.Outputs.{All-at, AtEach-all, entered-before, settled-before, entered-after}
 use Rattle.khepri_types.proofs.Amid.{Amid, entry_line, input-here, number-within, late, IsKept, kept}
 
 -- ---- what a reply holds
 
--- what a command answers has a spelling
-pub reply-spelled : (S : State) (c : Command) (bound : ℕ) → AllWithin bound S.tree → IsNumber (bound + 1) → IsReply (exec_command S c).0
-reply-spelled S (Put p x) bound all small =
-    let is : get (set S.tree p x) p ≡ Some (end_node (get S.tree p) x) = set-at_path S.tree p x in
-    let w : IsWithin (bound + 1) (end_node (get S.tree p) x) = within-set bound S.tree p x all p (end_node (get S.tree p) x) is in
-    let v : pv_of (get (set S.tree p x) p) ≡ (end_node (get S.tree p) x).pv = ap pv_of is in
-    (omega (arith, v, w.pv_high, small), omega arith)
+few_numbers : (n : ℕ) → n ≤ MAX_TREE_NODES → IsNumber n
+few_numbers n le = omega arith
 
-tree_within : (input : List (List ℕ)) (before : List OutLine) (l : ℕ) (S : State) (rest : List (List ℕ)) → Amid input before l S rest → AllWithin (1 + S.position) S.tree
-tree_within input before l S rest a =
+refusing-spelled : (r : Reply) → IsRefusing r → IsReply r
+refusing-spelled (reply.Changed n k) is = absurd is
+refusing-spelled (reply.Node pv cv n x) is = absurd is
+refusing-spelled reply.NoRoot is = tt
+refusing-spelled reply.NoDeep is = tt
+refusing-spelled reply.NoExists is = tt
+refusing-spelled reply.NoAbsent is = tt
+refusing-spelled reply.NoFull is = tt
+
+-- a tree that keeps its limits, with low versions and payloads that have spellings
+pub record IsPlain (bound : ℕ) (T : Tree) : Type 0 where
+  pub within : AllWithin bound T
+  pub fit : IsTrue (fits T)
+  pub payloads : AllSpelled T
+
+shown-spelled : (bound : ℕ) (T : Tree) (p : List NameText) (o : Option Node) → IsPlain bound T → IsNumber (bound + 1) → get T p ≡ o → IsReply (shown T p o)
+shown-spelled bound T p None plain small e = tt
+shown-spelled bound T p (Some n) plain small e =
+    let w : IsWithin bound n = plain.within p n e in
+    (omega (arith, w.pv_high, small), omega (arith, w.cv_high, small), few_numbers (kids T p) (omega (arith, kids-le T p, few_nodes T plain.fit)), plain.payloads p n e)
+
+set-spelled : (bound : ℕ) (T : Tree) (p : List NameText) (x : Payload) → AllWithin bound T → IsNumber (bound + 1) → IsNumber (pv_of (get (set T p x) p))
+set-spelled bound T p x all small =
+    let is : get (set T p x) p ≡ Some (end_node (get T p) x) = set-at_path T p x in
+    let w : IsWithin (bound + 1) (end_node (get T p) x) = within-set bound T p x all p (end_node (get T p) x) is in
+    let v : pv_of (get (set T p x) p) ≡ (end_node (get T p) x).pv = ap pv_of is in
+    omega (arith, v, w.pv_high, small)
+
+-- what a command answers has a spelling
+pub reply-spelled : (S : State) (c : Command) (bound : ℕ) → IsPlain bound S.tree → IsNumber (bound + 1) → IsReply (exec_command S c).0
+reply-spelled S c bound plain small = met (λ y. IsReply y.0) S c (record {
+  refuses = refusing-spelled;
+  shows = λ p. shown-spelled bound S.tree p (get S.tree p) plain small refl;
+  sets = λ p x may fit. (set-spelled bound S.tree p x plain.within small, omega arith);
+  drops = λ n p fit. (few_numbers (len S.tree - len (drop S.tree ((n ∷ p) ∷ []))) (omega (arith, few_nodes S.tree plain.fit)), omega arith);
+})
+
+tree_plain : (input : List (List ℕ)) (before : List OutLine) (l : ℕ) (S : State) (rest : List (List ℕ)) → Amid input before l S rest → IsPlain (1 + S.position) S.tree
+tree_plain input before l S rest a =
     let by : AllWithin (1 + length (history before)) (run_from opening_state (history before)).tree = within-history (history before) in
     let at : AllWithin (1 + length (history before)) S.tree = subst (λ (U : State). AllWithin (1 + length (history before)) U.tree) a.state by in
-    subst (λ (n : ℕ). AllWithin (1 + n) S.tree) (sym a.position) at
+    record {
+      within = subst (λ (n : ℕ). AllWithin (1 + n) S.tree) (sym a.position) at;
+      fit = subst (λ (U : State). IsTrue (fits U.tree)) a.state (fits-history (history before));
+      payloads = a.payloads;
+    }
 
 -- ---- the rules
 
@@ -45,13 +90,13 @@ spelled_kept input small = record {
   entry = λ before l S bytes rest k c at.
       let l_small : IsNumber l = omega (arith, small, number-within input before l S bytes rest at.amid) in
       let n_small : IsNumber (S.position + 1) = omega (arith, l_small, at.amid.few) in
-      (n_small, l_small, reads_commands bytes k c at.read);
+      (n_small, l_small, at.spelled);
   reply = λ before l S bytes rest k c at.
       let within : l ≤ length input = number-within input before l S bytes rest at.amid in
       let l_small : IsNumber l = omega (arith, small, within) in
       let n_small : IsNumber (S.position + 1) = omega (arith, l_small, at.amid.few) in
       let v_small : IsNumber ((1 + S.position) + 1) = omega (arith, small, within, at.amid.few) in
-      (l_small, n_small, reply-spelled S c (1 + S.position) (tree_within input before l S (bytes ∷ rest) at.amid) v_small);
+      (l_small, n_small, reply-spelled S c (1 + S.position) (tree_plain input before l S (bytes ∷ rest) at.amid) v_small);
 }
 
 numbered_kept : (input : List (List ℕ)) → IsKept input (Numbered empty_opening)
@@ -126,7 +171,7 @@ unfolding calm
 calm-is input = refl
 
 amid_opening : (input : List (List ℕ)) → Amid input (out.Leads 1 1 ∷ []) 1 opening_state input
-amid_opening input = record { done = []; whole = refl; number = refl; state = refl; position = refl; few = omega arith; early = (omega arith, tt) }
+amid_opening input = record { done = []; whole = refl; number = refl; state = refl; position = refl; few = omega arith; payloads = spelled-opening; early = (omega arith, tt) }
 
 -- a rule that holds at the first line and is kept holds throughout
 throughout : (input : List (List ℕ)) (R : List OutLine → OutLine → List OutLine → Type 0) → R [] (out.Leads 1 1) (answers 1 opening_state input) → IsKept input R → AtEach R [] (calm input)

@@ -1,5 +1,5 @@
 -- A tree stays a tree.
-use Rattle.std.proofs.Common.{◌≡◌, ◌⊎◌, inl, inr, ℕ, ◌≤◌, true, false, cond, List, [], ◌∷◌, length, take, refl, sym, ap, subst, ◌∙◌, arith, Some, None}
+use Rattle.std.proofs.Common.{◌≡◌, ◌⊎◌, inl, inr, ℕ, zero, suc, ◌≤◌, Bool, true, false, cond, ◌&&◌, ◌||◌, List, [], ◌∷◌, length, take, refl, sym, ap, subst, ◌∙◌, arith, Some, None}
 use Rattle.std.specs.Prelude.{IsTrue, is_some}
 use Rattle.std.specs.Ordering.{is_eq, eq_by_cmp}
 use Rattle.std.specs.Cmp.{tied_itself}
@@ -8,16 +8,21 @@ use Rattle.std.proofs.lemmas.List.{take_all, take-take, length-take, length-take
 use Rattle.std.proofs.Math.Seq.{take-nil}
 use Rattle.std.proofs.Math.Nat.{eq-or-lt_of_le}
 use Rattle.khepri_terms.specs.Terms.{NameText}
-use Rattle.khepri_terms.specs.Order.{path_cmp}
+use Rattle.khepri_terms.specs.Order.{name_cmp, path_cmp}
+use Rattle.khepri_terms.proofs.Cases.{and_true}
 use Rattle.khepri_types.specs.declared.node.Payload.{Payload}
 use Rattle.khepri_types.specs.declared.node.Payload.TheVariants.{Empty}
-use Rattle.khepri_types.specs.declared.command.Command.TheVariants.{Put}
+use Rattle.khepri_types.specs.declared.command.Command.{Command}
 use Rattle.khepri_types.specs.declared.out.EntryText.{EntryText}
 use Rattle.khepri_types.specs.declared.out.EntryText.TheVariants as text
 use Rattle.khepri_types.specs.Tree.{Tree, IsTree, stands, fresh, set, opening_tree}
-use Rattle.khepri_types.specs.Exec.{State, state_of}
+use Rattle.khepri_types.specs.Paths.{is_front, is_under}
+use Rattle.khepri_types.specs.Drop.{drop}
+use Rattle.khepri_types.specs.Exec.{State, state_of, exec_command}
 use Rattle.khepri_types.specs.History.{run_from}
 use Rattle.khepri_types.proofs.Order.{path_cmp_total, path_cmp-same}
+use Rattle.khepri_types.proofs.Dropping.{stands-drop, stood-drop}
+use Rattle.khepri_types.proofs.After.{met}
 use Rattle.khepri_types.proofs.Trees.{tie_is, set-at_path, set-on_the_way, set-elsewhere}
 
 -- q is the front of p that has i names
@@ -29,7 +34,7 @@ pub record FrontOf (p q : List NameText) : Type 0 where
 abbrev pub Away : List NameText → List NameText → Type 0
 Away p q = (i : ℕ) → i ≤ length p → q ≡ take i p → ⊥
 
-tied : (q k : List NameText) → q ≡ k → eq_by_cmp path_cmp q k ≡ true
+pub tied : (q k : List NameText) → q ≡ k → eq_by_cmp path_cmp q k ≡ true
 tied q k e = subst (λ (r : List NameText). eq_by_cmp path_cmp q r ≡ true) e (ap is_eq (tied_itself path_cmp_total q))
 
 own_front : (p q : List NameText) (i : ℕ) → i ≤ length p → q ≡ take i p → q ≡ take (length q) p
@@ -88,10 +93,52 @@ opening_front (n ∷ q) i le h = absurd (cc (sym h ∙ ap is_some (get-opening (
 pub tree-opening : IsTree opening_tree
 tree-opening = record { root = ap is_some (get-opening []); fronts = opening_front }
 
--- ---- and all that follow
+-- ---- after a drop
+
+-- what begins with a front of a path is a front of the path
+front_on : (p q : List NameText) (i : ℕ) → is_front p (take i q) ≡ true → is_front p q ≡ true
+unfolding is_front
+front_on [] q i h = refl
+front_on (n ∷ p) [] i h = absurd (cc (h, ap (is_front (n ∷ p)) (take-nil {A = NameText} i)))
+front_on (n ∷ p) (m ∷ q) zero h = absurd cc
+front_on (n ∷ p) (m ∷ q) (suc i) h =
+    let parts = and_true (is_eq (name_cmp n m)) (is_front p (take i q)) h in
+    λ k. parts.0 k && front_on p q i parts.1 k
+
+neither : (a b c d : Bool) → (a ≡ true → b ≡ true) → (d ≡ false → c ≡ false) → (b || d) ≡ false → (a || c) ≡ false
+neither true b c d f g h = absurd (cc (h, ap (λ (x : Bool). x || d) (f refl)))
+neither false true c d f g h = absurd cc
+neither false false c d f g h = g h
+
+under_front : (paths : List (List NameText)) (q : List NameText) (i : ℕ) → is_under paths q ≡ false → is_under paths (take i q) ≡ false
+under_front [] q i h = refl
+under_front (p ∷ paths) q i h = neither (is_front p (take i q)) (is_front p q) (is_under paths (take i q)) (is_under paths q) (front_on p q i) (under_front paths q i) h
+
+not_root : (n : NameText) (p : List NameText) → is_under ((n ∷ p) ∷ []) [] ≡ false
+unfolding is_front
+not_root n p = refl
+
+-- a drop of paths that aren't the root leaves a tree
+pub tree-drop : (T : Tree) (paths : List (List NameText)) → is_under paths [] ≡ false → IsTree T → IsTree (drop T paths)
+tree-drop T paths low tree = record {
+  root = stands-drop T paths [] low tree.root;
+  fronts = λ q i le h.
+      let was = (stood-drop T paths q h).1 in
+      stands-drop T paths (take i q) (under_front paths q i was.apart) (tree.fronts q i le (ap is_some was.stood));
+}
+
+-- ---- and after all that follow
+
+pub tree-after : (S : State) (c : Command) → IsTree S.tree → IsTree (exec_command S c).1.tree
+tree-after S c tree = met (λ y. IsTree y.1.tree) S c (record {
+  refuses = λ r is. tree;
+  shows = λ p. tree;
+  sets = λ p x may fit. tree-set S.tree p x tree;
+  drops = λ n p fit. tree-drop S.tree ((n ∷ p) ∷ []) (not_root n p) tree;
+})
 
 pub tree-run : (es : List EntryText) (S : State) → IsTree S.tree → IsTree (run_from S es).tree
 tree-run [] S tree = tree
-tree-run (text.Command (Put p x) ∷ es) S tree = tree-run es (state_of S (text.Command (Put p x))) (tree-set S.tree p x tree)
+tree-run (text.Command c ∷ es) S tree = tree-run es (state_of S (text.Command c)) (tree-after S c tree)
 tree-run (text.Fire s ∷ es) S tree = tree-run es (state_of S (text.Fire s)) tree
 tree-run (text.Noop ∷ es) S tree = tree-run es (state_of S text.Noop) tree

@@ -43,9 +43,14 @@ command_in (Some (line.Command k c)) = Some c
 abbrev pub command_of : List (List ℕ) → ℕ → Option Command
 command_of input l = command_in (line_of input l)
 
--- the look-up that input line l asks for: so far no line is one
+-- the look-up that a line asks for: so far no line is one
+abbrev pub lookup_in : Option Line → Option Lookup
+lookup_in None = None
+lookup_in (Some (line.Command k c)) = None
+
+-- the look-up that input line l asks for
 abbrev pub lookup_of : List (List ℕ) → ℕ → Option Lookup
-lookup_of input l = None
+lookup_of input l = lookup_in (line_of input l)
 
 -- the input line that an output line names, and 0 where it names none
 abbrev pub named : OutLine → ℕ

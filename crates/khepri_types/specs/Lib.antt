@@ -1,8 +1,14 @@
+pub mod Paths
 pub mod Tree
+pub mod Missing
+pub mod Drop
+pub mod Sizes
+pub mod Growth
 pub mod Exec
 pub mod Texts
 pub mod Spelled
 pub mod Reading
+pub mod ReadingOut
 pub mod History
 pub mod Legal
 pub mod Calm

@@ -1,13 +1,12 @@
 -- What has a spelling, with the limits that the grammar sets.
-use Rattle.std.specs.Prelude.{◌≡◌, ℕ, ◌≤◌, List, length}
-use Rattle.khepri_terms.specs.Terms.{NameText}
+use Rattle.std.specs.Prelude.{◌≡◌, ℕ, ◌≤◌}
 use Rattle.khepri_terms.specs.Paths.{IsPath}
 use Rattle.khepri_terms.specs.Records.{IsRec}
-use Rattle.khepri_types.specs.declared.limits.TheConstants.{MAX_PATH_NAMES, MAX_NUMBER}
+use Rattle.khepri_types.specs.declared.limits.TheConstants.{MAX_NUMBER}
 use Rattle.khepri_types.specs.declared.node.Payload.{Payload}
 use Rattle.khepri_types.specs.declared.node.Payload.TheVariants.{Empty, Fields}
 use Rattle.khepri_types.specs.declared.command.Command.{Command}
-use Rattle.khepri_types.specs.declared.command.Command.TheVariants.{Put}
+use Rattle.khepri_types.specs.declared.command.Command.TheVariants.{Put, Create, Update, Clear, Del, Get}
 use Rattle.khepri_types.specs.declared.command.Line.{Line}
 use Rattle.khepri_types.specs.declared.command.Line.TheVariants as line
 use Rattle.khepri_types.specs.declared.reply.Reply.{Reply}
@@ -25,30 +24,31 @@ IsNumber n = n ≤ MAX_NUMBER
 abbrev pub IsNode : ℕ → Type 0
 IsNode k = (1 ≤ k) × (k ≤ 9)
 
--- a payload that a put may carry: so far a record
+-- a payload that may be written
 abbrev pub IsPayload : Payload → Type 0
-IsPayload Empty = ⊥
+IsPayload Empty = Unit {0}
 IsPayload (Fields r) = IsRec r
 
--- a command that a line may carry: so far a put of a record at a path that a node may have
-pub record IsPut (p : List NameText) (x : Payload) : Type 0 where
-  pub path : IsPath p
-  pub few : length p ≤ MAX_PATH_NAMES
-  pub payload : IsPayload x
-
--- a command that may be written
+-- a command that may be written; its path may have more names than the path of a node
 abbrev pub IsCommand : Command → Type 0
-IsCommand (Put p x) = IsPut p x
+IsCommand (Put p x) = IsPath p × IsPayload x
+IsCommand (Create p x) = IsPath p × IsPayload x
+IsCommand (Update p x) = IsPath p × IsPayload x
+IsCommand (Clear p) = IsPath p
+IsCommand (Del p) = IsPath p
+IsCommand (Get p) = IsPath p
 
--- an input line that may be written: so far a command to node 1
+-- an input line that may be written
 abbrev pub IsLine : Line → Type 0
-IsLine (line.Command k c) = (k ≡ 1) × IsCommand c
+IsLine (line.Command k c) = IsNode k × IsCommand c
 
 -- a reply that may be written
 abbrev pub IsReply : Reply → Type 0
 IsReply (reply.Changed n k) = IsNumber n × IsNumber k
+IsReply (reply.Node pv cv kids x) = IsNumber pv × IsNumber cv × IsNumber kids × IsPayload x
+IsReply r = Unit {0}
 
--- what may stand in the `#` line of input line l: a command, and where l is 0 a fire or a noop
+-- what may stand in the `#` line of input line l: a command; where l is 0 also a fire or a noop
 abbrev pub IsEntryText : ℕ → EntryText → Type 0
 IsEntryText l (text.Command c) = IsCommand c
 IsEntryText l (text.Fire s) = (l ≡ 0) × IsNumber s

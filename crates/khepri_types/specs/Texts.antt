@@ -1,12 +1,14 @@
 -- The one spelling of commands, replies and output lines.
 use Rattle.std.specs.Prelude.{ℕ, List, [], ◌∷◌, ◌++◌, codes}
 use Rattle.std.specs.Fmt.{decimal}
+use Rattle.khepri_terms.specs.Terms.{NameText}
+use Rattle.khepri_terms.specs.Names.{comp_text}
 use Rattle.khepri_terms.specs.Paths.{path_text}
 use Rattle.khepri_terms.specs.Records.{rec_text}
 use Rattle.khepri_types.specs.declared.node.Payload.{Payload}
 use Rattle.khepri_types.specs.declared.node.Payload.TheVariants.{Empty, Fields}
 use Rattle.khepri_types.specs.declared.command.Command.{Command}
-use Rattle.khepri_types.specs.declared.command.Command.TheVariants.{Put}
+use Rattle.khepri_types.specs.declared.command.Command.TheVariants.{Put, Create, Update, Clear, Del, Get}
 use Rattle.khepri_types.specs.declared.command.Line.{Line}
 use Rattle.khepri_types.specs.declared.command.Line.TheVariants as line
 use Rattle.khepri_types.specs.declared.reply.Reply.{Reply}
@@ -27,17 +29,38 @@ unfoldable pub payload_text : Payload → List ℕ
 payload_text Empty = 45 ∷ []
 payload_text (Fields r) = rec_text r
 
--- `put PATH PAYLOAD`
+-- `PATH PAYLOAD`
+unfoldable pub assigned_text : List NameText → Payload → List ℕ
+assigned_text p x = path_text p ++ 32 ∷ payload_text x
+
+-- the command's word, a space, its path, and its payload where it has one
 unfoldable pub command_text : Command → List ℕ
-command_text (Put p x) = codes "put " ++ path_text p ++ 32 ∷ payload_text x
+command_text (Put p x) = codes "put " ++ assigned_text p x
+command_text (Create p x) = codes "create " ++ assigned_text p x
+command_text (Update p x) = codes "update " ++ assigned_text p x
+command_text (Clear p) = codes "clear " ++ path_text p
+command_text (Del p) = codes "del " ++ path_text p
+command_text (Get p) = codes "get " ++ path_text p
 
 -- `@k COMMAND`
 unfoldable pub line_text : Line → List ℕ
 line_text (line.Command k c) = 64 ∷ decimal k ++ 32 ∷ command_text c
 
--- `ok N K`
+-- the last name of a path as it is spelled, nothing for the root
+abbrev pub last_text : List NameText → List ℕ
+last_text [] = []
+last_text (n ∷ []) = comp_text n
+last_text (n ∷ m ∷ p) = last_text (m ∷ p)
+
+-- `ok N K`, `node PV CV KIDS PAYLOAD`, or `no` and the word of a refusal
 unfoldable pub reply_text : Reply → List ℕ
 reply_text (reply.Changed n k) = codes "ok " ++ decimal n ++ 32 ∷ decimal k
+reply_text (reply.Node pv cv kids x) = codes "node " ++ decimal pv ++ 32 ∷ decimal cv ++ 32 ∷ decimal kids ++ 32 ∷ payload_text x
+reply_text reply.NoRoot = codes "no root"
+reply_text reply.NoDeep = codes "no deep"
+reply_text reply.NoExists = codes "no exists"
+reply_text reply.NoAbsent = codes "no absent"
+reply_text reply.NoFull = codes "no full"
 
 -- a command, `fire s` or `noop`
 unfoldable pub entry_text : EntryText → List ℕ

@@ -39,7 +39,7 @@ fresh x = record { payload = x; pv = 1; cv = 1 }
 abbrev pub written : Node → Payload → Node
 written n x = record n { payload = x; pv = if same_payload x n.payload then n.pv else raised n.pv }
 
--- a child came
+-- a child came or went
 abbrev pub raised_children : Node → Node
 raised_children n = record n { cv = raised n.cv }
 

@@ -7,6 +7,16 @@ use khepri_terms::Path;
 pub enum Command {
     /// Sets the payload at a path, and makes the nodes that are missing on the way.
     Put { path: Path, payload: Payload },
+    /// As put, but refused where a node stands at the path.
+    Create { path: Path, payload: Payload },
+    /// As put, but refused where no node stands at the path.
+    Update { path: Path, payload: Payload },
+    /// Empties the payload of a standing node.
+    Clear { path: Path },
+    /// Removes the node at a path and all below it.
+    Del { path: Path },
+    /// Asks for the node at a path.
+    Get { path: Path },
 }
 
 /// What a log keeps, and what a machine is given.

@@ -9,11 +9,9 @@ pub mod laws;
 pub mod limits;
 mod node;
 mod out;
-mod put;
 mod reply;
 
 pub use command::{Command, Entry, Line};
 pub use node::{Node, Payload};
-pub use out::{EntryText, OutLine, Reason, Rows, StopWord, print_out};
-pub use put::{print_command, read_put};
-pub use reply::{Reply, print_reply};
+pub use out::{EntryText, OutLine, Reason, Rows, StopWord};
+pub use reply::Reply;

@@ -1,28 +1,29 @@
 // What a command is answered.
-ghost use Rattle.std.specs.Prelude.{◌≡◌, ◌++◌, OnOk, OnErr};
-ghost use Rattle.khepri_types.specs.Texts.{reply_text};
-
-use crate::out::print_number;
-use std::alloc::AllocError;
+use crate::node::Payload;
 
 /// The answer to a command.
-#[derive(Clone, Copy, Debug)]
+#[derive(Debug, Drop)]
 pub enum Reply {
-    /// The payload version of the written node after the change, and how many nodes settling removed.
-    Changed { count: u64, gone: u64 },
-}
-
-/// Appends the spelling of a reply.
-#[tactic(auto, unfolding(crate::specs::Texts::reply_text))]
-pub fn print_reply(reply: &Reply, out: &mut Vec<u8>) -> Result<(), AllocError>
-    ensures { OnOk result (out.new.items ≡ out.old.items ++ reply_text reply.now) }
-{
-    match reply {
-        Reply::Changed { count, gone } => {
-            out.extend_from_slice(b"ok ")?;
-            print_number(*count, out)?;
-            out.push(b' ')?;
-            print_number(*gone, out)
-        }
-    }
+    /// The payload version of the written node after the change, or how many nodes a deletion dropped; and how many nodes settling removed.
+    Changed {
+        count: u64,
+        gone: u64,
+    },
+    /// The node that was asked for: its versions, how many children it has, and its payload.
+    Node {
+        pv: u64,
+        cv: u64,
+        kids: u64,
+        payload: Payload,
+    },
+    /// The root can't be removed.
+    NoRoot,
+    /// The path has more names than the path of a node may have.
+    NoDeep,
+    /// A node stands at the path.
+    NoExists,
+    /// No node stands at the path.
+    NoAbsent,
+    /// A limit of the tree would be passed.
+    NoFull,
 }

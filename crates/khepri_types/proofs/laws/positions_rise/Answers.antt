@@ -1,0 +1,9 @@
+use Rattle.khepri_types.proofs.After.{position-after}
+use Rattle.khepri_types.proofs.Depths.{position-history}
+use Rattle.khepri_types.proofs.laws.positions_rise.Goals as goal
+
+pub returns-clause-command : goal.returns-clause-command
+returns-clause-command c = position-after
+
+pub returns-clause-history : goal.returns-clause-history
+returns-clause-history c = position-history

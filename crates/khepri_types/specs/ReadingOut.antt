@@ -1,0 +1,209 @@
+-- Reading output lines from left to right.
+use Rattle.std.specs.Prelude.{ℕ, ◌-◌, ◌&&◌, nat_le, ◌==◌, if◌then◌else◌, List, [], ◌∷◌, length, drop, Option, Some, None, codes}
+use Rattle.khepri_terms.specs.Many.{◌>>=◌}
+use Rattle.khepri_terms.specs.Numbers.{number_at}
+use Rattle.khepri_types.specs.declared.limits.TheConstants.{MAX_NUMBER}
+use Rattle.khepri_types.specs.declared.reply.Reply.{Reply}
+use Rattle.khepri_types.specs.declared.reply.Reply.TheVariants as reply
+use Rattle.khepri_types.specs.declared.out.EntryText.{EntryText}
+use Rattle.khepri_types.specs.declared.out.EntryText.TheVariants as entry
+use Rattle.khepri_types.specs.declared.out.Reason.{Reason}
+use Rattle.khepri_types.specs.declared.out.Reason.TheVariants.{TooLong, BadLine, NoNode, Running, Stopped, NotLeader, LogFull, Backlog, NoSlot}
+use Rattle.khepri_types.specs.declared.out.StopWord.{StopWord}
+use Rattle.khepri_types.specs.declared.out.StopWord.TheVariants.{Order, Vault, Memory, Bad}
+use Rattle.khepri_types.specs.declared.out.Rows.{Rows}
+use Rattle.khepri_types.specs.declared.out.Rows.TheVariants.{Absent}
+use Rattle.khepri_types.specs.declared.out.OutLine.{OutLine}
+use Rattle.khepri_types.specs.declared.out.OutLine.TheVariants as out
+use Rattle.khepri_types.specs.Reading.{begins, is_word, spelled_payload, spelled_command}
+
+-- what is after this word at the front
+unfoldable pub after_word : List ℕ → List ℕ → Option (List ℕ)
+after_word word text = if begins word text then Some (drop (length word) text) else None
+
+-- the number at the front that this word follows, and what is after the word
+unfoldable pub number_before : List ℕ → List ℕ → Option (ℕ × List ℕ)
+number_before word text = do
+  number ← number_at MAX_NUMBER text
+  rest ← after_word word number.1
+  Some (number.0, rest)
+
+-- a number that nothing follows
+abbrev pub whole_number : Option (ℕ × List ℕ) → Option ℕ
+whole_number None = None
+whole_number (Some (n, [])) = Some n
+whole_number (Some (n, b ∷ rest)) = None
+
+-- the number that the whole text spells
+unfoldable pub spelled_number : List ℕ → Option ℕ
+spelled_number text = whole_number (number_at MAX_NUMBER text)
+
+-- `N K`
+unfoldable pub changed_at : List ℕ → Option Reply
+changed_at text = do
+  n ← number_before (codes " ") text
+  k ← spelled_number n.1
+  Some (reply.Changed n.0 k)
+
+-- `PV CV KIDS PAYLOAD`
+unfoldable pub node_at : List ℕ → Option Reply
+node_at text = do
+  pv ← number_before (codes " ") text
+  cv ← number_before (codes " ") pv.1
+  kids ← number_before (codes " ") cv.1
+  payload ← spelled_payload kids.1
+  Some (reply.Node pv.0 cv.0 kids.0 payload)
+
+-- the refusal of a command that the whole text spells
+unfoldable pub spelled_no : List ℕ → Option Reply
+spelled_no text =
+    if is_word (codes "no root") text then Some reply.NoRoot
+    else (if is_word (codes "no deep") text then Some reply.NoDeep
+    else (if is_word (codes "no exists") text then Some reply.NoExists
+    else (if is_word (codes "no absent") text then Some reply.NoAbsent
+    else (if is_word (codes "no full") text then Some reply.NoFull
+    else None))))
+
+-- the reply that the whole text spells
+unfoldable pub spelled_reply : List ℕ → Option Reply
+spelled_reply text =
+    if begins (codes "ok ") text then changed_at (drop 3 text)
+    else (if begins (codes "node ") text then node_at (drop 5 text)
+    else spelled_no text)
+
+-- the command that the whole text spells, as what stands in a `#` line
+unfoldable pub command_entry : List ℕ → Option EntryText
+command_entry text = do
+  cmd ← spelled_command text
+  Some (entry.Command cmd)
+
+-- the fire whose number the whole text spells
+unfoldable pub fire_entry : List ℕ → Option EntryText
+fire_entry text = do
+  event ← spelled_number text
+  Some (entry.Fire event)
+
+-- what stands in the `#` line of no input line
+unfoldable pub older_entry : List ℕ → Option EntryText
+older_entry text =
+    if is_word (codes "noop") text then Some entry.Noop
+    else (if begins (codes "fire ") text then fire_entry (drop 5 text)
+    else command_entry text)
+
+-- what stands in the `#` line of input line l
+unfoldable pub spelled_entry : ℕ → List ℕ → Option EntryText
+spelled_entry l text = if l == 0 then older_entry text else command_entry text
+
+-- the reason that the whole text spells
+unfoldable pub spelled_reason : List ℕ → Option Reason
+spelled_reason text =
+    if is_word (codes "toolong") text then Some TooLong
+    else (if is_word (codes "badline") text then Some BadLine
+    else (if is_word (codes "nonode") text then Some NoNode
+    else (if is_word (codes "running") text then Some Running
+    else (if is_word (codes "stopped") text then Some Stopped
+    else (if is_word (codes "notleader") text then Some NotLeader
+    else (if is_word (codes "logfull") text then Some LogFull
+    else (if is_word (codes "backlog") text then Some Backlog
+    else (if is_word (codes "noslot") text then Some NoSlot
+    else None))))))))
+
+-- the cause of a stop that the whole text spells
+unfoldable pub spelled_stop : List ℕ → Option StopWord
+spelled_stop text =
+    if is_word (codes "order") text then Some Order
+    else (if is_word (codes "vault") text then Some Vault
+    else (if is_word (codes "memory") text then Some Memory
+    else (if is_word (codes "bad") text then Some Bad
+    else None)))
+
+-- the rows that the whole text spells
+unfoldable pub spelled_rows : List ℕ → Option Rows
+spelled_rows text = if is_word (codes "none") text then Some Absent else None
+
+-- behind `# `: the entry's place, ` @`, its input line, and what stands there
+unfoldable pub entry_line : List ℕ → Option OutLine
+entry_line text = do
+  n ← number_before (codes " @") text
+  l ← number_before (codes " ") n.1
+  shown ← spelled_entry l.0 l.1
+  Some (out.Entry n.0 l.0 shown)
+
+-- behind `= `: the input line, the entry's place and the reply
+unfoldable pub reply_line : List ℕ → Option OutLine
+reply_line text = do
+  l ← number_before (codes " ") text
+  n ← number_before (codes " ") l.1
+  answer ← spelled_reply n.1
+  Some (out.Reply l.0 n.0 answer)
+
+-- a line that is refused
+unfoldable pub refused_line : ℕ → List ℕ → Option OutLine
+refused_line l text = do
+  reason ← spelled_reason text
+  Some (out.Refused l reason)
+
+-- behind `- `: the input line, and `lost` or the reason of a refusal
+unfoldable pub end_line : List ℕ → Option OutLine
+end_line text = do
+  l ← number_before (codes " ") text
+  if is_word (codes "lost") l.1 then Some (out.Lost l.0) else refused_line l.0 l.1
+
+-- behind `? `: the input line and the place that it waits for
+unfoldable pub pending_line : List ℕ → Option OutLine
+pending_line text = do
+  l ← number_before (codes " ") text
+  n ← spelled_number l.1
+  Some (out.Pending l.0 n)
+
+-- behind `* `: the input line, the place and the rows
+unfoldable pub rows_line : List ℕ → Option OutLine
+rows_line text = do
+  l ← number_before (codes " ") text
+  n ← number_before (codes " ") l.1
+  rows ← spelled_rows n.1
+  Some (out.Read l.0 n.0 rows)
+
+-- the node leads
+unfoldable pub leads_line : ℕ → List ℕ → Option OutLine
+leads_line k text = do
+  term ← spelled_number text
+  Some (out.Leads k term)
+
+-- the node follows
+unfoldable pub follows_line : ℕ → List ℕ → Option OutLine
+follows_line k text = do
+  term ← spelled_number text
+  Some (out.Follows k term)
+
+-- the node stopped
+unfoldable pub stopped_line : ℕ → List ℕ → Option OutLine
+stopped_line k text = do
+  cause ← spelled_stop text
+  Some (out.Stopped k cause)
+
+-- what is said of the node
+unfoldable pub node_news : ℕ → List ℕ → Option OutLine
+node_news k text =
+    if begins (codes "leads ") text then leads_line k (drop 6 text)
+    else (if begins (codes "follows ") text then follows_line k (drop 8 text)
+    else (if begins (codes "stopped ") text then stopped_line k (drop 8 text)
+    else (if is_word (codes "started") text then Some (out.Started k)
+    else None)))
+
+-- behind `! `: a digit from 1 to 9, a space and what is said of that node
+unfoldable pub node_line : List ℕ → Option OutLine
+node_line [] = None
+node_line (d ∷ []) = None
+node_line (d ∷ s ∷ text) = if nat_le 49 d && nat_le d 57 && s == 32 then node_news (d - 48) text else None
+
+-- the output line that the whole text spells
+unfoldable pub out_at : List ℕ → Option OutLine
+out_at text =
+    if begins (codes "# ") text then entry_line (drop 2 text)
+    else (if begins (codes "= ") text then reply_line (drop 2 text)
+    else (if begins (codes "- ") text then end_line (drop 2 text)
+    else (if begins (codes "? ") text then pending_line (drop 2 text)
+    else (if begins (codes "* ") text then rows_line (drop 2 text)
+    else (if begins (codes "! ") text then node_line (drop 2 text)
+    else None)))))
