@@ -98,6 +98,33 @@ first-next limit bytes after gave r true i reads well none =
       | inr w ↦ whole_first limit bytes after gave w.0 w.1 reads.0
     ]
 
+-- ---- the lines given are among those that an LF ended within the budget
+
+-- bytes can still be taken, or so many lines ended with an LF within the budget
+abbrev pub IsWithin : ℕ → ℕ → List ℕ → List (Option (List ℕ)) → Type 0
+IsWithin budget room bytes gave = (0 < room) ⊎ (length gave ≤ length (whole_lines (take budget bytes)))
+
+some_line : (a : List (List ℕ)) → a ≢ [] → 1 ≤ length a
+some_line [] h = absurd (h refl)
+some_line (x ∷ a) h = omega arith
+
+-- of these bytes so many lines were given, and then those of what was unread
+whole_count : (limit : ℕ) (bytes more : List ℕ) (gave : List (Option (List ℕ))) (unread : List ℕ) → GoesOn limit bytes gave unread → length (whole_lines (bytes ++ more)) ≡ length gave + length (whole_lines (unread ++ more))
+whole_count limit bytes more gave unread g =
+    sym (length-map (whole_lines (bytes ++ more)) (shown limit)) ∙ (ap length (g.whole more) ∙ (length-append gave (shown_lines limit (whole_lines (unread ++ more))) ∙ ap (λ (n : ℕ). length gave + n) (length-map (whole_lines (unread ++ more)) (shown limit))))
+
+within-next : (limit : ℕ) (T x : List ℕ) (unread : List ℕ) (gave gave' : List (Option (List ℕ))) (r : Reading) (e : Bool) → r.ended ≡ e → GoesOn limit T gave unread → Reads limit (unread ++ x) gave' r.unread e → (e ≡ true → EndsWell (unread ++ x) gave' r)
+    → (0 < r.room) ⊎ (length (gave ++ gave') ≤ length (whole_lines (T ++ x)))
+within-next limit T x unread gave gave' r false i goes reads well =
+    let n : length (whole_lines ((unread ++ x) ++ [])) ≡ length gave' + length (whole_lines (r.unread ++ [])) = whole_count limit (unread ++ x) [] gave' r.unread reads in
+    let m : length (whole_lines (unread ++ x)) ≡ length (whole_lines ((unread ++ x) ++ [])) = ap (λ (y : List ℕ). length (whole_lines y)) (sym (append-nil (unread ++ x))) in
+    inr (omega (arith, whole_count limit T x gave unread goes, n, m, length-append gave gave'))
+within-next limit T x unread gave gave' r true i goes reads well =
+    elim (well refl) [
+      | inl room ↦ inl room
+      | inr w ↦ inr (omega (arith, whole_count limit T x gave unread goes, some_line (whole_lines (unread ++ x)) w.0, w.1, length-append gave gave'))
+    ]
+
 -- ---- a session's reading
 
 -- these bytes were taken and these lines were given
@@ -108,6 +135,7 @@ pub record SoFar (limit budget : ℕ) (left left' : Option (List ℕ)) (r : Read
   pub reads : Reads limit (take budget bytes) gave r.unread r.ended
   pub first : IsFirst limit gave bytes
   pub fewer : length gave + bytes_ahead r ≤ budget
+  pub within : IsWithin budget r.room bytes gave
 
 pub progress-none : (limit budget : ℕ) (left : Option (List ℕ)) (r : Reading) → r ≡ record { limit = limit; unread = []; room = budget + 1; ended = false } → SoFar limit budget left left r [] []
 progress-none limit budget left r e =
@@ -119,6 +147,7 @@ progress-none limit budget left r e =
       reads = subst (λ (x : List ℕ). GoesOn limit x [] []) (sym (take-nil budget)) (goes-same limit []);
       first = (shown_lines limit (lines []), refl);
       fewer = omega arith;
+      within = inl (omega arith);
     }
     )
 
@@ -146,6 +175,7 @@ progress-on limit budget left left1 left2 r1 r2 bytes gave n m result e p c =
         ap (λ (y : List ℕ). shown_lines limit (lines y)) (sym whole) ∙ (goes.all (x ++ after) ∙ (ap (λ (y : List ℕ). gave ++ shown_lines limit (lines y)) (sym (append_assoc r1.unread x after)) ∙ (ap (λ (y : List (Option (List ℕ))). gave ++ y) f.1 ∙ sym (append_assoc gave (given result) f.0)))),
       );
       fewer = omega (arith, length-append gave (given result), s.fewer, p.fewer);
+      within = subst (λ (y : List ℕ). (0 < r2.room) ⊎ (length (gave ++ given result) ≤ length (whole_lines y))) (sym within) (within-next limit T x r1.unread gave (given result) r2 r2.ended refl goes reads (λ t. ends_well result (r1.unread ++ x) r2 n m c.cause t));
     }
 
 progress-over : (limit budget : ℕ) (left left1 left2 : Option (List ℕ)) (r1 r2 : Reading) (bytes b : List ℕ) (gave g : List (Option (List ℕ)))

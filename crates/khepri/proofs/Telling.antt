@@ -1,18 +1,19 @@
 -- What is written, line by line.
-use Rattle.std.proofs.Common.{◌≡◌, ℕ, ◌+◌, ◌≤◌, List, [], ◌∷◌, ◌++◌, length, refl, sym, ap, ◌∙◌, append_assoc, arith, inl, inr, Option, Some, None}
+use Rattle.std.proofs.Common.{◌≡◌, ℕ, ◌+◌, ◌≤◌, Bool, true, false, cond, ltb, List, [], ◌∷◌, ◌++◌, length, refl, sym, ap, ◌∙◌, append_assoc, arith, inl, inr, Option, Some, None}
 use Rattle.std.proofs.lemmas.Bool.{cases_lt, lt-ltb, le-ltb}
 use Rattle.std.proofs.lemmas.List.{append-nil}
 use Rattle.std.proofs.lemmas.Grind.{flat_map-append}
 use Rattle.line_io.specs.Shown.{shown, shown_lines}
 use Rattle.khepri_types.specs.declared.limits.TheConstants.{MAX_LINE_BYTES}
-use Rattle.khepri_types.specs.declared.command.Command.TheVariants.{Put}
 use Rattle.khepri_types.specs.declared.command.Line.{Line}
 use Rattle.khepri_types.specs.declared.command.Line.TheVariants as line
 use Rattle.khepri_types.specs.declared.out.OutLine.{OutLine}
 use Rattle.khepri_types.specs.declared.out.OutLine.TheVariants as out
+use Rattle.khepri_types.specs.declared.out.Reason.TheVariants.{NoNode}
 use Rattle.khepri_types.specs.Exec.{State, opening_state}
 use Rattle.khepri_types.specs.Reading.{line_at}
-use Rattle.khepri_types.specs.Calm.{answer_line, answer, answers, calm, ended, text_of}
+use Rattle.khepri_types.specs.Calm.{answer_command, answer_line, answer, answers, calm, ended, text_of}
+use Rattle.khepri_types.proofs.After.{position-after}
 use Rattle.khepri.specs.Told.{answer_given, told, after, told_text}
 use Rattle.khepri.specs.Session.{calm_text}
 
@@ -75,7 +76,8 @@ told_text-none = append-nil (ended (out.Leads 1 1))
 
 position_line : (l : ℕ) (S : State) (x : Option Line) → (answer_line l S x).1.position ≤ S.position + 1
 position_line l S None = omega arith
-position_line l S (Some (line.Command k (Put p x))) = omega arith
+position_line l S (Some (line.Command k c)) =
+    elim (ltb 1 k) as (λ (v : Bool). (cond v (out.Refused l NoNode ∷ [], S) (answer_command l S c)).1.position ≤ S.position + 1) [ true ↦ omega arith | false ↦ omega (arith, position-after S c) ]
 
 position_given : (l : ℕ) (S : State) (x : Option (List ℕ)) → (answer_given l S x).1.position ≤ S.position + 1
 position_given l S None = omega arith

@@ -1,11 +1,11 @@
 -- A session amid its input, and how it ends.
-use Rattle.std.proofs.Common.{◌≡◌, ◌≢◌, ℕ, ◌+◌, ◌<◌, ◌≤◌, ◌^◌, Bool, true, false, List, [], ◌++◌, length, take, drop, refl, sym, ap, subst, ◌∙◌, append_assoc, arith, Option, Some, None, Ok, Err}
-use Rattle.std.proofs.lemmas.List.{append-nil, length-append, take_all, take-append-drop}
+use Rattle.std.proofs.Common.{◌≡◌, ◌≢◌, ℕ, zero, suc, ◌+◌, ◌-◌, ◌<◌, ◌≤◌, ◌^◌, Bool, true, false, List, [], ◌∷◌, ◌++◌, length, take, drop, refl, sym, ap, subst, ◌∙◌, append_assoc, arith, inl, inr, Option, Some, None, Ok, Err}
+use Rattle.std.proofs.lemmas.List.{append-nil, length-append, length-map, take_all, take-append-drop}
 use Rattle.line_io.specs.Lines.{NoLf, lines, whole_lines, no_line}
-use Rattle.line_io.specs.Shown.{shown_lines, given_next}
+use Rattle.line_io.specs.Shown.{shown, shown_lines, given_next}
 use Rattle.line_io.specs.Reading.{Reading}
 use Rattle.line_io.specs.Ahead.{Reads, TakesAll, Call}
-use Rattle.line_io.specs.Streams.{Rose, Appends, AppendsFront}
+use Rattle.line_io.specs.Streams.{Rose, Appends, AppendsPart}
 use Rattle.line_io.proofs.Appending.{Appends-then, Rose-wider}
 use Rattle.line_io.proofs.LineLemmas.{lines_from-alone}
 use Rattle.line_io.specs.declared.next.Next.{Next}
@@ -18,11 +18,11 @@ use Rattle.khepri_types.specs.Legal.{Legal}
 use Rattle.khepri_types.specs.Calm.{calm, text_of}
 use Rattle.khepri_types.proofs.Legality.{calm-legal}
 use Rattle.khepri.specs.Told.{told, after, told_text}
-use Rattle.khepri.specs.Session.{Session, Took, IsAtEnd, IsFrontOf, Says, calm_text}
+use Rattle.khepri.specs.Session.{Session, Took, IsAtEnd, IsFrontOf, IsBrokenOff, Says, calm_text}
 use Rattle.khepri.specs.declared.status.Status.{Status}
 use Rattle.khepri.specs.declared.status.Status.TheVariants as status
 use Rattle.khepri.proofs.Telling.{calm_told, told_text-more, after-more, position_after}
-use Rattle.khepri.proofs.Taking.{SoFar, IsFirst, progress-none, progress-more, few_lines}
+use Rattle.khepri.proofs.Taking.{SoFar, IsFirst, IsWithin, progress-none, progress-more, few_lines}
 
 -- ---- taking and writing
 
@@ -117,6 +117,34 @@ answered left held left1 held1 held2 r l S1 S2 next text a et es w =
       wrote = subst (λ (x : List ℕ). Appends held held2 x) (sym more) (Appends-then held held1 held2 (told_text a.gave) text a.wrote w);
     }
 
+-- ---- the first lines
+
+length_take-le : (n : ℕ) (xs : List ℕ) → length (take n xs) ≤ n
+length_take-le zero xs = omega arith
+length_take-le (suc n) [] = omega arith
+length_take-le (suc n) (x ∷ xs) = omega (arith, length_take-le n xs)
+
+shown-take : (limit n : ℕ) (xs : List (List ℕ)) → shown_lines limit (take n xs) ≡ take n (shown_lines limit xs)
+shown-take limit zero xs = refl
+shown-take limit (suc n) [] = refl
+shown-take limit (suc n) (x ∷ xs) = ap (λ (y : List (Option (List ℕ))). shown limit x ∷ y) (shown-take limit n xs)
+
+take-front : (xs ys : List (Option (List ℕ))) → take (length xs) (xs ++ ys) ≡ xs
+take-front [] ys = refl
+take-front (x ∷ xs) ys = ap (λ (y : List (Option (List ℕ))). x ∷ y) (take-front xs ys)
+
+-- what is written for as many of the lines as were given
+calm_first : (gave : List (Option (List ℕ))) (bytes : List ℕ) → IsFirst MAX_LINE_BYTES gave bytes → calm_text (take (length gave) (lines bytes)) ≡ told_text gave
+calm_first gave bytes f =
+    calm_told (take (length gave) (lines bytes)) ∙ ap told_text (shown-take MAX_LINE_BYTES (length gave) (lines bytes) ∙ (ap (λ (x : List (Option (List ℕ))). take (length gave) x) f.1 ∙ take-front gave f.0))
+
+among_lines : (gave : List (Option (List ℕ))) (bytes : List ℕ) → IsFirst MAX_LINE_BYTES gave bytes → length gave ≤ length (lines bytes)
+among_lines gave bytes f = omega (arith, sym (length-map (lines bytes) (shown MAX_LINE_BYTES)), ap length f.1, length-append gave f.0)
+
+within_lines : (budget room : ℕ) (bytes : List ℕ) (gave : List (Option (List ℕ))) → IsWithin budget room bytes gave → length bytes + room ≡ budget + 1 → length bytes ≡ budget + 1 → length gave ≤ length (whole_lines (take budget bytes))
+within_lines budget room bytes gave (inl some) spent over = absurd (omega (arith, some, spent, over))
+within_lines budget room bytes gave (inr few) spent over = few
+
 -- ---- the ends
 
 -- what is written for the lines of so many bytes is legal
@@ -207,9 +235,36 @@ on_no_memory left held left1 held1 left2 r1 r2 l S n m a c =
 pub on_no_answer : (left held left' held' : Option (List ℕ)) (r : Reading) (l : ℕ) (S : State) (next : Next) → Asked left held left' held' r l S next → Session status.NoMemory left left' held held'
 on_no_answer left held left' held' r l S next a = ends status.NoMemory left held left' held' r a.bytes a.gave (given_next next) a.progress a.wrote tt
 
+-- the answer to the last of the lines given is cut off
+broken_off : (gave next : List (Option (List ℕ))) (bytes text : List ℕ) (r : Reading) (n : ℕ) → length next ≡ 1 → n < length text → told_text (gave ++ next) ≡ told_text gave ++ text → IsFirst MAX_LINE_BYTES (gave ++ next) bytes
+    → IsWithin MAX_INPUT_BYTES r.room bytes (gave ++ next) → length bytes + r.room ≡ MAX_INPUT_BYTES + 1 → IsBrokenOff bytes (told_text gave ++ take n text)
+broken_off gave next bytes text r n one lt more first within spent =
+    let count : length (gave ++ next) ≡ length gave + 1 = omega (arith, length-append gave next, one) in
+    let all : calm_text (take (length (gave ++ next)) (lines bytes)) ≡ told_text gave ++ text = calm_first (gave ++ next) bytes first ∙ more in
+    let fewer : calm_text (take (length gave) (lines bytes)) ≡ told_text gave = calm_first gave bytes (first-shorter MAX_LINE_BYTES gave next bytes first) in
+    let less : length (gave ++ next) - 1 ≡ length gave = omega (arith, count) in
+    record {
+      m = length (gave ++ next);
+      among = among_lines (gave ++ next) bytes first;
+      before = λ some. (take n text, ap (λ (x : List ℕ). x ++ take n text) (sym (ap (λ (k : ℕ). calm_text (take k (lines bytes))) less ∙ fewer)));
+      cut = omega (arith, ap length all, length-append (told_text gave) text, length-append (told_text gave) (take n text), length_take-le n text);
+      within = within_lines MAX_INPUT_BYTES r.room bytes (gave ++ next) within spent;
+    }
+
+-- not all of the first line was written
+pub unopened_part : (n : ℕ) → n < length (told_text []) → IsBrokenOff [] (take n (told_text []))
+unopened_part n lt =
+    record {
+      m = 0;
+      among = omega arith;
+      before = λ some. absurd (omega (arith, some));
+      cut = omega (arith, ap length (calm_told []), length_take-le n (told_text []), lt);
+      within = λ over. omega arith;
+    }
+
 -- the sink failed within an answer
 pub on_sink_fault : (left held left1 held1 held2 : Option (List ℕ)) (r : Reading) (l : ℕ) (S : State) (next : Next) (text : List ℕ)
-    → Asked left held left1 held1 r l S next → text ≡ text_of (told l S (given_next next)) → AppendsFront held1 held2 text → Session status.SinkFault left left1 held held2
+    → Asked left held left1 held1 r l S next → text ≡ text_of (told l S (given_next next)) → AppendsPart held1 held2 text → Session status.SinkFault left left1 held held2
 on_sink_fault left held left1 held1 held2 r l S next text a et w =
     let more : told_text (a.gave ++ given_next next) ≡ told_text a.gave ++ text = told_text-more l a.gave (given_next next) a.line ∙ ap (λ (x : List ℕ). told_text a.gave ++ x) (ap (λ (T : State). text_of (told l T (given_next next))) (sym a.state) ∙ sym et) in
     record {
@@ -220,7 +275,7 @@ on_sink_fault left held left1 held1 held2 r l S next text a et w =
       legal = legal_of a.bytes (most_of MAX_LINE_BYTES MAX_INPUT_BYTES left left1 r a.bytes (a.gave ++ given_next next) a.progress);
       front = front-then (told_text a.gave) text (calm_text (lines a.bytes)) w.0 (subst (λ (x : List ℕ). IsFrontOf x (calm_text (lines a.bytes))) more (front_first (a.gave ++ given_next next) a.bytes a.progress.first));
       most = most_of MAX_LINE_BYTES MAX_INPUT_BYTES left left1 r a.bytes (a.gave ++ given_next next) a.progress;
-      says = tt;
+      says = broken_off a.gave (given_next next) a.bytes text r w.0 a.one w.1 more a.progress.first a.progress.within a.progress.spent;
     }
 
 -- ---- before the first line

@@ -1,7 +1,7 @@
 -- What a session takes and writes, by the status that it ends with.
-use Rattle.std.specs.Prelude.{◌≡◌, ℕ, ◌+◌, ◌≤◌, List, [], ◌++◌, length, take, Option, Some, None, IfSome}
+use Rattle.std.specs.Prelude.{◌≡◌, ℕ, ◌+◌, ◌-◌, ◌<◌, ◌≤◌, List, [], ◌++◌, length, take, Option, Some, None, IfSome}
 use Rattle.line_io.specs.Lines.{lines, whole_lines}
-use Rattle.line_io.specs.Streams.{Appends, AppendsFront}
+use Rattle.line_io.specs.Streams.{Appends, AppendsPart}
 use Rattle.khepri_types.specs.declared.limits.TheConstants.{MAX_INPUT_BYTES}
 use Rattle.khepri_types.specs.History.{empty_opening}
 use Rattle.khepri_types.specs.Legal.{Legal}
@@ -43,12 +43,21 @@ pub record IsOver (bytes written : List ℕ) : Type 0 where
   pub over : length bytes ≡ MAX_INPUT_BYTES + 1
   pub answered : written ≡ calm_text (whole_lines (take MAX_INPUT_BYTES bytes))
 
+-- the sink failed within the answer to line m, or within the first line of all where m is 0: the lines before it have their answers,
+-- and its own is cut off; where the byte after the most that an input may have was taken, an LF before it ended line m
+pub record IsBrokenOff (bytes written : List ℕ) : Type 0 where
+  pub m : ℕ
+  pub among : m ≤ length (lines bytes)
+  pub before : 0 < m → IsFrontOf (calm_text (take (m - 1) (lines bytes))) written
+  pub cut : length written < length (calm_text (take m (lines bytes)))
+  pub within : length bytes ≡ MAX_INPUT_BYTES + 1 → m ≤ length (whole_lines (take MAX_INPUT_BYTES bytes))
+
 -- what was taken and written, by the status
 abbrev pub Says : Status → Option (List ℕ) → List ℕ → List ℕ → Type 0
 Says Ended left' bytes written = IsEnded left' bytes written
 Says Usage left' bytes written = ⊥
 Says SourceFault left' bytes written = IsCutOff bytes written
-Says SinkFault left' bytes written = Unit {0}
+Says SinkFault left' bytes written = IsBrokenOff bytes written
 Says NoMemory left' bytes written = Unit {0}
 Says AuditBad left' bytes written = ⊥
 Says InputLong left' bytes written = IsOver bytes written
@@ -65,12 +74,12 @@ pub record Session (status : Status) (left left' held held' : Option (List ℕ))
   pub most : length bytes ≤ MAX_INPUT_BYTES + 1
   pub says : Says status left' bytes written
 
--- where the words are not known, nothing was taken, and the usage line was written, or a front of it where the sink failed
+-- where the words are not known, nothing was taken, and the usage line was written, or not all of it where the sink failed
 abbrev pub Refuses : Status → Option (List ℕ) → Option (List ℕ) → Option (List ℕ) → Option (List ℕ) → Type 0
 Refuses Ended left left' held held' = ⊥
 Refuses Usage left left' held held' = (left' ≡ left) × Appends held held' usage_line
 Refuses SourceFault left left' held held' = ⊥
-Refuses SinkFault left left' held held' = (left' ≡ left) × AppendsFront held held' usage_line
+Refuses SinkFault left left' held held' = (left' ≡ left) × AppendsPart held held' usage_line
 Refuses NoMemory left left' held held' = ⊥
 Refuses AuditBad left left' held held' = ⊥
 Refuses InputLong left left' held held' = ⊥

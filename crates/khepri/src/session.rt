@@ -26,7 +26,7 @@ pub fn session<S: Source, K: Sink>(alloc: Global, source: &mut S, sink: &mut K) 
         Err(_) => return Status::NoMemory,
     };
     let mut out = Vec::new(alloc);
-    if put_out(&mut out, &OutLine::Leads { node: 1, term: 1 }).is_err() {
+    if put_out(&mut out, OutLine::Leads { node: 1, term: 1 }).is_err() {
         return Status::NoMemory;
     }
     if put_all(sink, out.as_slice()).is_err() {

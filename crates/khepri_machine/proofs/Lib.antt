@@ -1,3 +1,9 @@
 pub mod Slots
+pub mod Kids
 pub mod Trees
-pub mod Payloads
+pub mod Steps
+pub mod Lengths
+pub mod Ways
+pub mod Subtrees
+pub mod Losses
+pub mod Cuts

@@ -26,15 +26,15 @@ pub record Below (p : List NameText) (nodes : List Entry) (i : ℕ) : Type 0 whe
 abbrev pub Above : List NameText → List Entry → ℕ → Type 0
 Above p nodes i = IsTrue (below_all path_cmp p (drop i nodes))
 
-both_true : (a b : Bool) → IsTrue a → IsTrue b → IsTrue (a && b)
+pub both_true : (a b : Bool) → IsTrue a → IsTrue b → IsTrue (a && b)
 both_true true b g h = h
 both_true false b g h = absurd cc
 
-second_true : (a b : Bool) → IsTrue (a && b) → IsTrue b
+pub second_true : (a b : Bool) → IsTrue (a && b) → IsTrue b
 second_true true b h = h
 second_true false b h = absurd cc
 
-first_true : (a b : Bool) → IsTrue (a && b) → IsTrue a
+pub first_true : (a b : Bool) → IsTrue (a && b) → IsTrue a
 first_true true b h = refl
 first_true false b h = h
 
@@ -43,33 +43,33 @@ less_is Less h = refl
 less_is Equal h = absurd cc
 less_is Greater h = absurd cc
 
-head_below : (q : List NameText) (x : Entry) (es : List Entry) → IsTrue (below_all path_cmp q (x ∷ es)) → path_cmp q x.0 ≡ Less
+pub head_below : (q : List NameText) (x : Entry) (es : List Entry) → IsTrue (below_all path_cmp q (x ∷ es)) → path_cmp q x.0 ≡ Less
 head_below q x es h = less_is (path_cmp q x.0) (first_true (is_lt (path_cmp q x.0)) (below_all path_cmp q es) h)
 
-tail_below : (q : List NameText) (x : Entry) (es : List Entry) → IsTrue (below_all path_cmp q (x ∷ es)) → IsTrue (below_all path_cmp q es)
+pub tail_below : (q : List NameText) (x : Entry) (es : List Entry) → IsTrue (below_all path_cmp q (x ∷ es)) → IsTrue (below_all path_cmp q es)
 tail_below q x es h = second_true (is_lt (path_cmp q x.0)) (below_all path_cmp q es) h
 
-head_sorted : (x : Entry) (es : List Entry) → IsSorted (x ∷ es) → IsTrue (below_all path_cmp x.0 es)
+pub head_sorted : (x : Entry) (es : List Entry) → IsSorted (x ∷ es) → IsTrue (below_all path_cmp x.0 es)
 head_sorted x es h = first_true (below_all path_cmp x.0 es) (is_sorted path_cmp es) h
 
-tail_sorted : (x : Entry) (es : List Entry) → IsSorted (x ∷ es) → IsSorted es
+pub tail_sorted : (x : Entry) (es : List Entry) → IsSorted (x ∷ es) → IsSorted es
 tail_sorted x es h = second_true (below_all path_cmp x.0 es) (is_sorted path_cmp es) h
 
 -- a path below all of them is below each
-below-at : (q : List NameText) (es : List Entry) (i : ℕ) (e : Entry) → i < length es → e ≡ get_or es i e → IsTrue (below_all path_cmp q es) → path_cmp q e.0 ≡ Less
+pub below-at : (q : List NameText) (es : List Entry) (i : ℕ) (e : Entry) → i < length es → e ≡ get_or es i e → IsTrue (below_all path_cmp q es) → path_cmp q e.0 ≡ Less
 below-at q [] i e lt is h = absurd (omega arith)
 below-at q (x ∷ es) zero e lt is h = ap (λ (y : Entry). path_cmp q y.0) is ∙ head_below q x es h
 below-at q (x ∷ es) (suc i) e lt is h = below-at q es i e (omega arith) is (tail_below q x es h)
 
 -- a path below the least of them is below all
-below-all : (p q : List NameText) (es : List Entry) → path_cmp p q ≡ Less → IsTrue (below_all path_cmp q es) → IsTrue (below_all path_cmp p es)
+pub below-all : (p q : List NameText) (es : List Entry) → path_cmp p q ≡ Less → IsTrue (below_all path_cmp q es) → IsTrue (below_all path_cmp p es)
 below-all p q [] less h = refl
 below-all p q (x ∷ es) less h =
     both_true (is_lt (path_cmp p x.0)) (below_all path_cmp p es)
     (ap is_lt (path_cmp_total.trans p q x.0 less (head_below q x es h)))
     (below-all p q es less (tail_below q x es h))
 
-turned : (p q : List NameText) (o : Ordering) → path_cmp p q ≡ o → path_cmp q p ≡ ordering_reverse o
+pub turned : (p q : List NameText) (o : Ordering) → path_cmp p q ≡ o → path_cmp q p ≡ ordering_reverse o
 turned p q o e = path_cmp_total.antisymm q p ∙ ap ordering_reverse e
 
 pub Below-none : (p : List NameText) (nodes : List Entry) → Below p nodes 0
@@ -114,7 +114,7 @@ Above-at p (x ∷ nodes) zero e sorted lt is less =
     both_true (is_lt (path_cmp p x.0)) (below_all path_cmp p nodes) (ap is_lt first) (below-all p x.0 nodes first (head_sorted x nodes sorted))
 Above-at p (x ∷ nodes) (suc i) e sorted lt is less = Above-at p nodes i e (tail_sorted x nodes sorted) (omega arith) is less
 
-get_at : (nodes : List Entry) (i : ℕ) (e : Entry) → i < length nodes → e ≡ get_or nodes i e → slice_get nodes i ≡ Some e
+pub get_at : (nodes : List Entry) (i : ℕ) (e : Entry) → i < length nodes → e ≡ get_or nodes i e → slice_get nodes i ≡ Some e
 get_at [] i e lt is = absurd (omega arith)
 get_at (x ∷ nodes) zero e lt is = ap Some (sym is)
 get_at (x ∷ nodes) (suc i) e lt is = get_at nodes i e (omega arith) is
@@ -140,11 +140,11 @@ module _ (p : List NameText) (nodes : List Entry) (i : ℕ) (e : Entry) (sorted 
       let one : put path_cmp p n (drop i nodes) ≡ (p, n) ∷ drop (suc i) nodes = ap (put path_cmp p n) cell ∙ (ap (λ o. by_order o ((p, n) ∷ e ∷ drop (suc i) nodes) ((e.0, n) ∷ drop (suc i) nodes) (e ∷ put path_cmp p n (drop (suc i) nodes))) same ∙ ap (λ (x : List NameText). (x, n) ∷ drop (suc i) nodes) path_is) in
       below_it.puts n ∙ (ap (λ (x : List Entry). take i nodes ++ x) one ∙ sym (set_split nodes i (p, n) lt))
 
-find-above : (p : List NameText) (es : List Entry) → IsTrue (below_all path_cmp p es) → find path_cmp p es ≡ None
+pub find-above : (p : List NameText) (es : List Entry) → IsTrue (below_all path_cmp p es) → find path_cmp p es ≡ None
 find-above p [] h = refl
 find-above p (x ∷ es) h = ap (λ r. cond (is_eq r) (Some x.1) (find path_cmp p es)) (head_below p x es h) ∙ find-above p es (tail_below p x es h)
 
-put-above : (p : List NameText) (n : Node) (es : List Entry) → IsTrue (below_all path_cmp p es) → put path_cmp p n es ≡ (p, n) ∷ es
+pub put-above : (p : List NameText) (n : Node) (es : List Entry) → IsTrue (below_all path_cmp p es) → put path_cmp p n es ≡ (p, n) ∷ es
 put-above p n [] h = refl
 put-above p n (x ∷ es) h = ap (λ o. by_order o ((p, n) ∷ x ∷ es) ((x.0, n) ∷ es) (x ∷ put path_cmp p n es)) (head_below p x es h)
 

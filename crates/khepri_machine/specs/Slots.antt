@@ -1,20 +1,21 @@
--- Places in a vector of nodes, and what a put does to it.
-use Rattle.std.specs.Prelude.{◌≡◌, ℕ, List, Some, slice_get, is_some, take, ◌+◌}
+-- Places in a vector of nodes.
+use Rattle.std.specs.Prelude.{◌≡◌, ℕ, not, List, [], ◌∷◌, ◌++◌, take, drop, Some, slice_get}
+use Rattle.std.specs.List.{filter}
 use Rattle.std.specs.FinMap.{find, put}
 use Rattle.khepri_terms.specs.Terms.{NameText}
 use Rattle.khepri_terms.specs.Order.{path_cmp}
 use Rattle.khepri_types.specs.declared.node.Node.{Node}
-use Rattle.khepri_types.specs.declared.node.Payload.{Payload}
-use Rattle.khepri_types.specs.Tree.{way_node, end_node}
+use Rattle.khepri_types.specs.Paths.{is_under}
+use Rattle.khepri_types.specs.Tree.{raised_children}
 
 -- the path and its node stand at place i
 abbrev pub Finds : List NameText → List (List NameText × Node) → ℕ → Type 0
 Finds p nodes i = (n : Node) × (slice_get nodes i ≡ Some (p, n)) × (find path_cmp p nodes ≡ Some n)
 
--- the entries with the node on the way at the first i names of p
-abbrev pub passed_list : List (List NameText × Node) → List NameText → ℕ → List (List NameText × Node)
-passed_list es p i = put path_cmp (take i p) (way_node (find path_cmp (take i p) es) (is_some (find path_cmp (take (i + 1) p) es))) es
+-- the nodes from place i up to j, and no others, begin with the path
+abbrev pub Spans : List NameText → List (List NameText × Node) → ℕ → ℕ → Type 0
+Spans p nodes i j = filter (λ e. not (is_under (p ∷ []) e.0)) nodes ≡ take i nodes ++ drop j nodes
 
--- the entries with payload x at p
-abbrev pub arrived_list : List (List NameText × Node) → List NameText → Payload → List (List NameText × Node)
-arrived_list es p x = put path_cmp p (end_node (find path_cmp p es) x) es
+-- the path stands among the old nodes, and the new ones are these with its child-list version raised
+abbrev pub RaisesAt : List NameText → List (List NameText × Node) → List (List NameText × Node) → Type 0
+RaisesAt p old new = (n : Node) × (find path_cmp p old ≡ Some n) × (new ≡ put path_cmp p (raised_children n) old)

@@ -3,8 +3,11 @@
 //! knows nothing of lines, of streams, or of who asked.
 #![tactic(auto)]
 
+mod cut;
+mod grow;
 mod machine;
 mod nodes;
-mod put;
+mod sizes;
+mod store;
 
 pub use machine::KhepriMachine;

@@ -1,34 +1,35 @@
 // The machine.
-ghost use Rattle.std.specs.Prelude.{◌≡◌, ◌<◌, ◌+◌, ◌^◌, IfOk};
+ghost use Rattle.std.specs.Prelude.{◌≡◌, ◌<◌, ◌≤◌, ◌+◌, ◌^◌, if◌then◌else◌, length, IfOk};
 ghost use Rattle.khepri_types.specs.declared.command.Command.TheVariants as command;
-ghost use Rattle.khepri_types.specs.Exec.{exec, exec_command, opening_state};
+ghost use Rattle.khepri_types.specs.declared.limits.TheConstants.{MAX_PATH_NAMES};
+ghost use Rattle.khepri_types.specs.declared.reply.Reply.TheVariants.{NoExists, NoAbsent};
+ghost use Rattle.khepri_types.specs.Tree.{stands};
+ghost use Rattle.khepri_types.specs.Exec.{exec, exec_command, opening_state, write, delete, refused};
 
 use crate::nodes::fresh_node;
-use crate::put::set_payload;
+use crate::store::Store;
 use khepri_terms::Path;
-use khepri_types::{Command, Entry, Node, Payload, Reply};
+use khepri_types::limits::MAX_PATH_NAMES;
+use khepri_types::{Command, Entry, Payload, Reply};
 use std::alloc::{AllocError, Global};
 use std::marker::Model;
 
 /// A tree and how many entries made it. It starts from the root alone, and two machines that were given the same entries stand for
-/// the same state. A call that answers `AllocError` leaves an entry half applied: the machine may then only be dropped.
+/// the same state. A call that answers `AllocError` may leave an entry half applied: the machine may then only be dropped.
 #[derive(Drop)]
 pub struct KhepriMachine {
-    nodes: Vec<(Path, Node)>,
+    store: Store,
     position: u64,
 }
 
 impl Model for KhepriMachine {
-    ghost use Rattle.std.specs.Prelude.{IsTrue};
-    ghost use Rattle.std.specs.FinMap.{is_sorted};
-    ghost use Rattle.khepri_terms.specs.Order.{path_cmp};
-    ghost use Rattle.khepri_machine.specs.Machine.{Kept};
+    ghost use Rattle.khepri_machine.specs.Machine.{Kept, IsKept};
 
     ghost Value = { Kept };
 
-    ghost view = { λ m. record { nodes = m.nodes.items; position = m.position } };
+    ghost view = { λ m. record { nodes = m.store.nodes.items; position = m.position } };
 
-    ghost invariant = { λ m. IsTrue (is_sorted path_cmp m.nodes.items) };
+    ghost invariant = { λ m. IsKept m.store.nodes.items m.store.kids.items m.store.bytes };
 }
 
 impl KhepriMachine {
@@ -39,7 +40,16 @@ impl KhepriMachine {
     {
         let mut nodes = Vec::new(alloc);
         nodes.push((Path::root(alloc), fresh_node(Payload::Empty)))?;
-        Ok(KhepriMachine { nodes, position: 0 })
+        let mut kids = Vec::new(alloc);
+        kids.push(0)?;
+        Ok(KhepriMachine {
+            store: Store {
+                nodes,
+                kids,
+                bytes: 1,
+            },
+            position: 0,
+        })
     }
 
     /// How many entries were applied.
@@ -49,13 +59,18 @@ impl KhepriMachine {
         self.position
     }
 
-    /// Applies the next entry. The work is a few look-ups for each name of the path; a node that is made may move all that come after it.
+    /// Applies an entry and answers its command. A put or create takes a few searches for each missing name of its path, a get, update
+    /// or clear one; what comes or goes may move all nodes that stand after it.
     pub fn exec(&mut self, entry: &Entry) -> Result<Reply, AllocError>
         requires room { (state_of self.old).position < 2 ^ 40 }
         ensures { IfOk result (λ reply. exec (state_of self.old) entry.now ≡ (reply, state_of self.new)) }
     {
         match entry {
-            Entry::Command { cmd, .. } => self.exec_command(cmd),
+            Entry::Command {
+                conn: _,
+                line: _,
+                cmd,
+            } => self.exec_command(cmd),
         }
     }
 
@@ -65,6 +80,11 @@ impl KhepriMachine {
     {
         match cmd {
             Command::Put { path, payload } => self.put(path, payload),
+            Command::Create { path, payload } => self.create(path, payload),
+            Command::Update { path, payload } => self.update(path, payload),
+            Command::Clear { path } => self.exchange(path, &Payload::Empty),
+            Command::Del { path } => self.del(path),
+            Command::Get { path } => self.get(path),
         }
     }
 
@@ -72,12 +92,103 @@ impl KhepriMachine {
         requires room { (state_of self.old).position < 2 ^ 40 }
         ensures { IfOk result (λ reply. exec_command (state_of self.old) (command.Put path.now payload.now) ≡ (reply, state_of self.new)) }
     {
-        let version = set_payload(&mut self.nodes, path, payload)?;
+        if path.len() > MAX_PATH_NAMES {
+            return Ok(self.refuse(Reply::NoDeep));
+        }
+        self.write(path, payload)
+    }
+
+    fn create(&mut self, path: &Path, payload: &Payload) -> Result<Reply, AllocError>
+        requires room { (state_of self.old).position < 2 ^ 40 }
+        ensures { IfOk result (λ reply. exec_command (state_of self.old) (command.Create path.now payload.now) ≡ (reply, state_of self.new)) }
+    {
+        if path.len() > MAX_PATH_NAMES {
+            return Ok(self.refuse(Reply::NoDeep));
+        }
+        self.make(path, payload)
+    }
+
+    fn update(&mut self, path: &Path, payload: &Payload) -> Result<Reply, AllocError>
+        requires room { (state_of self.old).position < 2 ^ 40 }
+        ensures { IfOk result (λ reply. exec_command (state_of self.old) (command.Update path.now payload.now) ≡ (reply, state_of self.new)) }
+    {
+        if path.len() > MAX_PATH_NAMES {
+            return Ok(self.refuse(Reply::NoDeep));
+        }
+        self.exchange(path, payload)
+    }
+
+    fn del(&mut self, path: &Path) -> Result<Reply, AllocError>
+        requires room { (state_of self.old).position < 2 ^ 40 }
+        ensures { IfOk result (λ reply. exec_command (state_of self.old) (command.Del path.now) ≡ (reply, state_of self.new)) }
+    {
+        if path.len() == 0 {
+            return Ok(self.refuse(Reply::NoRoot));
+        }
+        Ok(self.remove(path))
+    }
+
+    fn get(&mut self, path: &Path) -> Result<Reply, AllocError>
+        requires room { (state_of self.old).position < 2 ^ 40 }
+        ensures { IfOk result (λ reply. exec_command (state_of self.old) (command.Get path.now) ≡ (reply, state_of self.new)) }
+    {
+        let reply = self.store.show(path)?;
         self.count_entry();
-        Ok(Reply::Changed {
-            count: version,
-            gone: 0,
-        })
+        Ok(reply)
+    }
+
+    // Sets the payload where the path stands.
+    fn exchange(&mut self, path: &Path, payload: &Payload) -> Result<Reply, AllocError>
+        requires room { (state_of self.old).position < 2 ^ 40 }
+        ensures { IfOk result (λ reply. (if stands (state_of self.old).tree path.now then write (state_of self.old) path.now payload.now else refused (state_of self.old) NoAbsent) ≡ (reply, state_of self.new)) }
+    {
+        let reply = self.store.exchange(path, payload)?;
+        self.count_entry();
+        Ok(reply)
+    }
+
+    // Sets the payload, where no earlier rule refuses the command.
+    fn write(&mut self, path: &Path, payload: &Payload) -> Result<Reply, AllocError>
+        requires room { (state_of self.old).position < 2 ^ 40 }
+        requires short { length path.now ≤ MAX_PATH_NAMES }
+        ensures { IfOk result (λ reply. write (state_of self.old) path.now payload.now ≡ (reply, state_of self.new)) }
+    {
+        let reply = self.store.write(path, payload)?;
+        self.count_entry();
+        Ok(reply)
+    }
+
+    // Sets the payload where no node stands at the path.
+    fn make(&mut self, path: &Path, payload: &Payload) -> Result<Reply, AllocError>
+        requires room { (state_of self.old).position < 2 ^ 40 }
+        requires short { length path.now ≤ MAX_PATH_NAMES }
+        ensures { IfOk result (λ reply. (if stands (state_of self.old).tree path.now then refused (state_of self.old) NoExists else write (state_of self.old) path.now payload.now) ≡ (reply, state_of self.new)) }
+    {
+        let reply = self.store.create(path, payload)?;
+        self.count_entry();
+        Ok(reply)
+    }
+
+    // Drops the node at the path, which isn't the root, and all below it.
+    fn remove(&mut self, path: &Path) -> Reply
+        requires room { (state_of self.old).position < 2 ^ 40 }
+        requires below { 0 < length path.now }
+        ensures { delete (state_of self.old) path.now ≡ (result, state_of self.new) }
+    {
+        let count = self.store.remove(path);
+        self.count_entry();
+        Reply::Changed { count, gone: 0 }
+    }
+
+    // A refused entry has its place in the history, and changes nothing else.
+    fn refuse(&mut self, reply: Reply) -> Reply
+        requires { self.old.position < 2 ^ 40 }
+        ensures reply { result ≡ reply }
+        ensures nodes { self.new.nodes ≡ self.old.nodes }
+        ensures position { self.new.position ≡ self.old.position + 1 }
+    {
+        self.count_entry();
+        reply
     }
 
     // One more entry was applied.
@@ -87,50 +198,5 @@ impl KhepriMachine {
         ensures position { self.new.position ≡ self.old.position + 1 }
     {
         self.position += 1;
-    }
-}
-
-#[cfg(test)]
-mod tests {
-    use super::*;
-    use khepri_types::{Line, read_put};
-    use std::test::Fail;
-
-    // Applies the put of this line, and answers the version and the number of removed nodes.
-    fn replied(alloc: Global, machine: &mut KhepriMachine, text: &[u8]) -> Option<(u64, u64)> {
-        let Ok(Line::Command { cmd, .. }) = read_put(alloc, text) else {
-            return None;
-        };
-        if machine.position() >= 1 << 40 {
-            return None;
-        }
-        let entry = Entry::Command {
-            conn: 0,
-            line: 1,
-            cmd,
-        };
-        match machine.exec(&entry) {
-            Ok(Reply::Changed { count, gone }) => Some((count, gone)),
-            Err(AllocError) => None,
-        }
-    }
-
-    #[test]
-    fn replies_the_version_after_each_put(rt: HostRuntime) -> Result<(), Fail> {
-        let mut machine = KhepriMachine::fresh(rt.alloc())?;
-        let puts: [(&[u8], u64); 7] = [
-            (b"@1 put /a/b {k=1}", 1),
-            (b"@1 put /a/b {k=1}", 1),
-            (b"@1 put /a/b {k=2}", 2),
-            (b"@1 put /a {k=1}", 2),
-            (b"@1 put /a/b/c {k=1}", 1),
-            (b"@1 put /a/b {k=2}", 2),
-            (b"@1 put / {k=1}", 2),
-        ];
-        for (text, version) in puts {
-            assert_eq!(rt; replied(rt.alloc(), &mut machine, text), Some((version, 0)));
-        }
-        assert_eq!(rt; machine.position(), 7);
-        Ok(())
     }
 }

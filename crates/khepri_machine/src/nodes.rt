@@ -1,14 +1,15 @@
 // Places in a vector of nodes in order of path.
-ghost use Rattle.std.specs.Prelude.{◌≡◌, ◌<◌, ◌≤◌, length, take, slice_set, insert, IfOk, IfErr, OnOk, OnErr, IsTrue, None};
+ghost use Rattle.std.specs.Prelude.{◌≡◌, ◌<◌, ◌≤◌, ◌+◌, [], length, take, slice_set, insert, IfOk, IfErr, OnOk, OnErr, IfSome, IsTrue, None, is_some};
 ghost use Rattle.std.specs.FinMap.{find, put, is_sorted};
 ghost use Rattle.khepri_terms.specs.Order.{path_cmp};
 ghost use Rattle.khepri_types.specs.declared.node.Node.{Node};
-ghost use Rattle.khepri_types.specs.Tree.{fresh};
-ghost use Rattle.khepri_machine.specs.Slots.{Finds};
+ghost use Rattle.khepri_types.specs.Tree.{fresh, raised, raised_children, written};
+ghost use Rattle.khepri_types.specs.Paths.{is_front};
+ghost use Rattle.khepri_machine.specs.Slots.{Finds, Spans};
 
 use khepri_terms::Path;
 use khepri_types::{Node, Payload};
-use std::alloc::AllocError;
+use std::alloc::{AllocError, Global};
 use std::cmp::Ordering;
 
 // Where the path of the first `len` names stands, or where it would.
@@ -35,6 +36,27 @@ pub(crate) fn slot(nodes: &[(Path, Node)], path: &Path, len: usize) -> Result<us
     Err(low)
 }
 
+// Where the path stands, if it does.
+pub(crate) fn place(nodes: &[(Path, Node)], path: &Path) -> Option<usize>
+    requires sorted { IsTrue (is_sorted path_cmp nodes.now) }
+    ensures within { IfSome result (λ i. i < length nodes.now) }
+    ensures found { IfSome result (λ i. Finds path.now nodes.now i) }
+    ensures sets { IfSome result (λ i. (n : Node) → put path_cmp path.now n nodes.now ≡ slice_set nodes.now i (path.now, n)) }
+    ensures absent { result ≡ None → find path_cmp path.now nodes.now ≡ None }
+{
+    match slot(nodes, path, path.len()) {
+        Ok(at) => Some(at),
+        Err(_) => None,
+    }
+}
+
+// The version after this one.
+pub(crate) fn raise(version: u64) -> u64
+    ensures { result ≡ raised version }
+{
+    version.saturating_add(1)
+}
+
 // A node as it is made.
 pub(crate) fn fresh_node(payload: Payload) -> Node
     ensures { result ≡ fresh payload }
@@ -44,6 +66,38 @@ pub(crate) fn fresh_node(payload: Payload) -> Node
         pv: 1,
         cv: 1,
     }
+}
+
+// A child of the entry's node came.
+pub(crate) fn raise_children(entry: &mut (Path, Node))
+    ensures path { entry.new.0 ≡ entry.old.0 }
+    ensures node { entry.new.1 ≡ raised_children entry.old.1 }
+{
+    entry.1.cv = raise(entry.1.cv);
+}
+
+// Another payload for a node.
+fn write(node: &mut Node, payload: &Payload) -> Result<(), AllocError>
+    ensures written { OnOk result (node.new ≡ written node.old payload.now) }
+    ensures kept { OnErr result (node.new ≡ node.old) }
+{
+    if payload.is_same(&node.payload) {
+        return Ok(());
+    }
+    node.payload = payload.copy()?;
+    node.pv = raise(node.pv);
+    Ok(())
+}
+
+// Another payload for the entry's node; answers its version after that.
+pub(crate) fn write_entry(entry: &mut (Path, Node), payload: &Payload) -> Result<u64, AllocError>
+    ensures path { entry.new.0 ≡ entry.old.0 }
+    ensures node { OnOk result (entry.new.1 ≡ written entry.old.1 payload.now) }
+    ensures kept { OnErr result (entry.new.1 ≡ entry.old.1) }
+    ensures version { IfOk result (λ v. v ≡ entry.new.1.pv) }
+{
+    write(&mut entry.1, payload)?;
+    Ok(entry.1.pv)
 }
 
 // Makes a node for the path of the first `len` names, at its place.
@@ -62,4 +116,52 @@ pub(crate) fn make_node(
     let front = path.front(len)?;
     nodes.insert(at, (front, fresh_node(payload)))?;
     Ok(())
+}
+
+// How many names the longest front that stands has, where the path itself is missing.
+pub(crate) fn standing_front(nodes: &[(Path, Node)], path: &Path) -> usize
+    requires sorted { IsTrue (is_sorted path_cmp nodes.now) }
+    requires root { IsTrue (is_some (find path_cmp [] nodes.now)) }
+    requires below { 0 < length path.now }
+    requires absent { find path_cmp path.now nodes.now ≡ None }
+    ensures within { result < length path.now }
+    ensures stands { IsTrue (is_some (find path_cmp (take result path.now) nodes.now)) }
+    ensures missing { find path_cmp (take (result + 1) path.now) nodes.now ≡ None }
+{
+    let mut above = path.len() - 1;
+    'up: while above > 0 {
+        match slot(nodes, path, above) {
+            Ok(_) => return above,
+            Err(_) => above -= 1,
+        }
+    }
+    above
+}
+
+// Whether the other path begins with this one.
+fn begins(path: &Path, other: &Path) -> bool
+    ensures { result ≡ is_front path.now other.now }
+{
+    if other.len() < path.len() {
+        return false;
+    }
+    other.compare_front(path.len(), path).is_eq()
+}
+
+// Where the nodes end that begin with the path, which stands at a place.
+pub(crate) fn subtree_end(nodes: &[(Path, Node)], path: &Path, at: usize) -> usize
+    requires sorted { IsTrue (is_sorted path_cmp nodes.now) }
+    requires found { Finds path.now nodes.now at }
+    ensures after { at < result }
+    ensures within { result ≤ length nodes.now }
+    ensures spans { Spans path.now nodes.now at result }
+{
+    let mut end = at + 1;
+    'below: while end < nodes.len() {
+        if !begins(path, &nodes[end].0) {
+            return end;
+        }
+        end += 1;
+    }
+    end
 }

@@ -1,6 +1,6 @@
 use Rattle.std.proofs.Common.{◌≡◌, ℕ, true, false, List, [], ◌++◌, Result, Ok, Err, sym, ap, subst, ◌∙◌, arith}
 use Rattle.std.specs.Result.{OnOk, OnErr, is_err}
-use Rattle.line_io.specs.Streams.{AppendsFront}
+use Rattle.line_io.specs.Streams.{AppendsPart}
 use Rattle.line_io.specs.Ahead.{Call}
 use Rattle.line_io.specs.declared.next.Next.{Next}
 use Rattle.line_io.specs.declared.next.LineFault.{LineFault}
@@ -12,7 +12,7 @@ use Rattle.khepri_machine.specs.Machine.{state_of}
 use Rattle.khepri.specs.Told.{told, told_text}
 use Rattle.khepri.specs.declared.status.Status.TheVariants as status
 use Rattle.khepri.proofs.Telling.{told_text-none}
-use Rattle.khepri.proofs.Turns.{amid-none, asked, asked_room, answered, on_end, on_source_fault, on_input_long, on_no_memory, on_no_answer, on_sink_fault, rose_source, rose_sink, unopened}
+use Rattle.khepri.proofs.Turns.{amid-none, asked, asked_room, answered, on_end, on_source_fault, on_input_long, on_no_memory, on_no_answer, on_sink_fault, rose_source, rose_sink, unopened, unopened_part}
 use Rattle.khepri.proofs.session.session.Goals as goal
 
 ok_part : {X E P : Type 0} (r : Result X E) → is_err r ≡ false → OnOk r P → P
@@ -43,9 +43,9 @@ pub returns-then-is_err-2-clause-session : goal.returns-then-is_err-2-clause-ses
 returns-then-is_err-2-clause-session g c =
     let text : c.as_slice.result.now ≡ told_text [] =
     text_is c.as_slice.result.now c.put_out.new.out.items c.new-out.result.items (ended (out.Leads 1 1)) c.as_slice.ensures.value (ok_part c.put_out.result (sym c.is_err.ensures.value ∙ c.if-is_err.false) c.put_out.ensures) c.new-out.ensures.items ∙ sym told_text-none in
-    let w : AppendsFront (g.K.Sink.held c.args.sink.now) (g.K.Sink.held c.put_all.new.sink) (told_text []) =
-    subst (λ (x : List ℕ). AppendsFront (g.K.Sink.held c.args.sink.now) (g.K.Sink.held c.put_all.new.sink) x) text (err_part c.put_all.result (sym c.is_err-2.ensures.value ∙ c.if-is_err-2.true) c.put_all.ensures.err) in
-    unopened status.SinkFault (g.S.Source.left c.args.source.now) (g.K.Sink.held c.args.sink.now) (g.K.Sink.held c.put_all.new.sink) w.0 tt w.2
+    let w : AppendsPart (g.K.Sink.held c.args.sink.now) (g.K.Sink.held c.put_all.new.sink) (told_text []) =
+    subst (λ (x : List ℕ). AppendsPart (g.K.Sink.held c.args.sink.now) (g.K.Sink.held c.put_all.new.sink) x) text (err_part c.put_all.result (sym c.is_err-2.ensures.value ∙ c.if-is_err-2.true) c.put_all.ensures.err) in
+    unopened status.SinkFault (g.S.Source.left c.args.source.now) (g.K.Sink.held c.args.sink.now) (g.K.Sink.held c.put_all.new.sink) w.0 (unopened_part w.0 w.1) w.2
 
 pub lines-init : goal.lines-init
 lines-init g c =

@@ -1,0 +1,15 @@
+use Rattle.std.proofs.Common.{◌+◌, ◌∙◌, List, subst, sym, ap}
+use Rattle.khepri_machine.specs.Machine.{Kept, Exchanges}
+use Rattle.khepri_machine.proofs.Slots.{Entry}
+use Rattle.khepri_machine.proofs.Steps.{exchanged}
+use Rattle.khepri_machine.proofs.machine.KhepriMachine.exchange.Goals as goal
+
+pub returns : goal.returns
+returns c =
+    let p = c.args.path.now in
+    let x = c.args.payload.now in
+    let r = c.in_ok-reply.reply in
+    exchanged c.args.self.now c.count_entry.new.self p x r
+    (subst (λ (ys : List Entry). Exchanges ys p x r c.count_entry.new.self.nodes) (ap (λ (m : Kept). m.nodes) c.self.view_is)
+    (subst (λ (zs : List Entry). Exchanges c.self.inside.store.nodes.items p x r zs) (sym c.count_entry.ensures.nodes) c.in_ok-reply.ensures.done))
+    (c.count_entry.ensures.position ∙ ap (λ (m : Kept). m.position + 1) c.self.view_is)

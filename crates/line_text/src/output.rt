@@ -1,0 +1,355 @@
+// Output lines.
+ghost use Rattle.std.specs.Prelude.{◌≡◌, ◌++◌, ◌∷◌, length, take, codes, IfOk, OnOk, OnErr, MatchOption, Err, Some, None};
+ghost use Rattle.khepri_types.specs.Texts.{reply_text, reason_text, stop_text, rows_text, out_text};
+ghost use Rattle.khepri_types.specs.ReadingOut.{spelled_reason, spelled_stop, spelled_rows, entry_line, reply_line, refused_line, end_line, pending_line, rows_line, leads_line, follows_line, stopped_line, node_news, node_line, out_at};
+ghost use Rattle.line_text.specs.Grammar.{SpellsOut, IsNoOut};
+
+use crate::entry::{append_entry, read_entry};
+use crate::reply::{append_reply, read_reply};
+use crate::words::{append_number, append_numbers, is_word, read_number_before, read_whole_number};
+use khepri_terms::TextFault;
+use khepri_types::{OutLine, Reason, Reply, Rows, StopWord};
+use std::alloc::{AllocError, Global};
+
+/// Appends the spelling of an output line, its LF not included; where memory is wanting, nothing.
+pub fn print_out(line: &OutLine, out: &mut Vec<u8>) -> Result<(), AllocError>
+    ensures ok { OnOk result (out.new.items ≡ out.old.items ++ out_text line.now) }
+    ensures err { OnErr result (out.new.items ≡ out.old.items) }
+{
+    let len = out.len();
+    let printed = append_out(line, out);
+    if printed.is_err() {
+        out.truncate(len);
+    }
+    printed
+}
+
+#[tactic(auto, unfolding(khepri_types::specs::Texts::out_text), using(khepri_terms::proofs::Printing::front_then))]
+fn append_out(line: &OutLine, out: &mut Vec<u8>) -> Result<(), AllocError>
+    ensures ok { OnOk result (out.new.items ≡ out.old.items ++ out_text line.now) }
+    ensures front { take (length out.old.items) out.new.items ≡ out.old.items }
+{
+    match line {
+        OutLine::Entry { n, line, text } => {
+            append_numbers(b"# ", *n, b" @", *line, out)?;
+            out.push(b' ')?;
+            append_entry(text, out)
+        }
+        OutLine::Reply { line, n, reply } => {
+            append_numbers(b"= ", *line, b" ", *n, out)?;
+            append_answer(reply, out)
+        }
+        OutLine::Lost { line } => {
+            append_number(b"- ", *line, out)?;
+            out.extend_from_slice(b" lost")
+        }
+        OutLine::Pending { line, n } => append_numbers(b"? ", *line, b" ", *n, out),
+        OutLine::Read { line, n, rows } => {
+            append_numbers(b"* ", *line, b" ", *n, out)?;
+            append_rows(*rows, out)
+        }
+        OutLine::Refused { line, reason } => {
+            append_number(b"- ", *line, out)?;
+            append_reason(*reason, out)
+        }
+        OutLine::Leads { node, term } => {
+            append_number(b"! ", *node as u64, out)?;
+            append_number(b" leads ", *term, out)
+        }
+        OutLine::Follows { node, term } => {
+            append_number(b"! ", *node as u64, out)?;
+            append_number(b" follows ", *term, out)
+        }
+        OutLine::Stopped { node, cause } => {
+            append_number(b"! ", *node as u64, out)?;
+            append_stop(*cause, out)
+        }
+        OutLine::Started { node } => {
+            append_number(b"! ", *node as u64, out)?;
+            out.extend_from_slice(b" started")
+        }
+    }
+}
+
+// Appends a space and the spelling of a reply.
+#[tactic(auto, using(khepri_terms::proofs::Printing::front_then))]
+fn append_answer(reply: &Reply, out: &mut Vec<u8>) -> Result<(), AllocError>
+    ensures ok { OnOk result (out.new.items ≡ out.old.items ++ 32 ∷ reply_text reply.now) }
+    ensures front { take (length out.old.items) out.new.items ≡ out.old.items }
+{
+    out.push(b' ')?;
+    append_reply(reply, out)
+}
+
+// Appends a space and the word of a reason.
+#[tactic(auto, unfolding(khepri_types::specs::Texts::reason_text))]
+fn append_reason(reason: Reason, out: &mut Vec<u8>) -> Result<(), AllocError>
+    ensures ok { OnOk result (out.new.items ≡ out.old.items ++ 32 ∷ reason_text reason) }
+    ensures front { take (length out.old.items) out.new.items ≡ out.old.items }
+{
+    match reason {
+        Reason::TooLong => out.extend_from_slice(b" toolong"),
+        Reason::BadLine => out.extend_from_slice(b" badline"),
+        Reason::NoNode => out.extend_from_slice(b" nonode"),
+        Reason::Running => out.extend_from_slice(b" running"),
+        Reason::Stopped => out.extend_from_slice(b" stopped"),
+        Reason::NotLeader => out.extend_from_slice(b" notleader"),
+        Reason::LogFull => out.extend_from_slice(b" logfull"),
+        Reason::Backlog => out.extend_from_slice(b" backlog"),
+        Reason::NoSlot => out.extend_from_slice(b" noslot"),
+    }
+}
+
+// Appends that the node stopped, and the word of the cause.
+#[tactic(auto, unfolding(khepri_types::specs::Texts::stop_text))]
+fn append_stop(cause: StopWord, out: &mut Vec<u8>) -> Result<(), AllocError>
+    ensures ok { OnOk result (out.new.items ≡ out.old.items ++ codes " stopped " ++ stop_text cause) }
+    ensures front { take (length out.old.items) out.new.items ≡ out.old.items }
+{
+    match cause {
+        StopWord::Order => out.extend_from_slice(b" stopped order"),
+        StopWord::Vault => out.extend_from_slice(b" stopped vault"),
+        StopWord::Memory => out.extend_from_slice(b" stopped memory"),
+        StopWord::Bad => out.extend_from_slice(b" stopped bad"),
+    }
+}
+
+// Appends a space and the rows.
+#[tactic(auto, unfolding(khepri_types::specs::Texts::rows_text))]
+fn append_rows(rows: Rows, out: &mut Vec<u8>) -> Result<(), AllocError>
+    ensures ok { OnOk result (out.new.items ≡ out.old.items ++ 32 ∷ rows_text rows) }
+    ensures front { take (length out.old.items) out.new.items ≡ out.old.items }
+{
+    match rows {
+        Rows::Absent => out.extend_from_slice(b" none"),
+    }
+}
+
+#[tactic(auto, unfolding(khepri_types::specs::ReadingOut::spelled_reason))]
+fn read_reason(text: &[u8]) -> Option<Reason>
+    ensures { MatchOption result (spelled_reason text.now ≡ None) (λ x. spelled_reason text.now ≡ Some x) }
+{
+    if is_word(text, b"toolong") {
+        return Some(Reason::TooLong);
+    }
+    if is_word(text, b"badline") {
+        return Some(Reason::BadLine);
+    }
+    if is_word(text, b"nonode") {
+        return Some(Reason::NoNode);
+    }
+    if is_word(text, b"running") {
+        return Some(Reason::Running);
+    }
+    if is_word(text, b"stopped") {
+        return Some(Reason::Stopped);
+    }
+    if is_word(text, b"notleader") {
+        return Some(Reason::NotLeader);
+    }
+    if is_word(text, b"logfull") {
+        return Some(Reason::LogFull);
+    }
+    if is_word(text, b"backlog") {
+        return Some(Reason::Backlog);
+    }
+    if is_word(text, b"noslot") {
+        return Some(Reason::NoSlot);
+    }
+    None
+}
+
+#[tactic(auto, unfolding(khepri_types::specs::ReadingOut::spelled_stop))]
+fn read_stop(text: &[u8]) -> Option<StopWord>
+    ensures { MatchOption result (spelled_stop text.now ≡ None) (λ x. spelled_stop text.now ≡ Some x) }
+{
+    if is_word(text, b"order") {
+        return Some(StopWord::Order);
+    }
+    if is_word(text, b"vault") {
+        return Some(StopWord::Vault);
+    }
+    if is_word(text, b"memory") {
+        return Some(StopWord::Memory);
+    }
+    if is_word(text, b"bad") {
+        return Some(StopWord::Bad);
+    }
+    None
+}
+
+#[tactic(auto, unfolding(khepri_types::specs::ReadingOut::spelled_rows))]
+fn read_rows(text: &[u8]) -> Option<Rows>
+    ensures { MatchOption result (spelled_rows text.now ≡ None) (λ x. spelled_rows text.now ≡ Some x) }
+{
+    if is_word(text, b"none") {
+        return Some(Rows::Absent);
+    }
+    None
+}
+
+// Behind `# `.
+#[tactic(auto, unfolding(khepri_types::specs::ReadingOut::entry_line))]
+fn read_entry_line(alloc: Global, text: &[u8]) -> Result<OutLine, TextFault>
+    ensures value { IfOk result (λ x. entry_line text.now ≡ Some x) }
+    ensures bad { result ≡ Err TextFault.Bad → entry_line text.now ≡ None }
+{
+    let Some((n, rest)) = read_number_before(text, b" @") else {
+        return Err(TextFault::Bad);
+    };
+    let Some((line, rest)) = read_number_before(rest, b" ") else {
+        return Err(TextFault::Bad);
+    };
+    let text = read_entry(alloc, line, rest)?;
+    Ok(OutLine::Entry { n, line, text })
+}
+
+// Behind `= `.
+#[tactic(auto, unfolding(khepri_types::specs::ReadingOut::reply_line))]
+fn read_reply_line(alloc: Global, text: &[u8]) -> Result<OutLine, TextFault>
+    ensures value { IfOk result (λ x. reply_line text.now ≡ Some x) }
+    ensures bad { result ≡ Err TextFault.Bad → reply_line text.now ≡ None }
+{
+    let Some((line, rest)) = read_number_before(text, b" ") else {
+        return Err(TextFault::Bad);
+    };
+    let Some((n, rest)) = read_number_before(rest, b" ") else {
+        return Err(TextFault::Bad);
+    };
+    let reply = read_reply(alloc, rest)?;
+    Ok(OutLine::Reply { line, n, reply })
+}
+
+#[tactic(auto, unfolding(khepri_types::specs::ReadingOut::refused_line))]
+fn read_refused_line(line: u64, text: &[u8]) -> Option<OutLine>
+    ensures { MatchOption result (refused_line line text.now ≡ None) (λ x. refused_line line text.now ≡ Some x) }
+{
+    let reason = read_reason(text)?;
+    Some(OutLine::Refused { line, reason })
+}
+
+// Behind `- `.
+#[tactic(auto, unfolding(khepri_types::specs::ReadingOut::end_line))]
+fn read_end_line(text: &[u8]) -> Option<OutLine>
+    ensures { MatchOption result (end_line text.now ≡ None) (λ x. end_line text.now ≡ Some x) }
+{
+    let (line, rest) = read_number_before(text, b" ")?;
+    if is_word(rest, b"lost") {
+        return Some(OutLine::Lost { line });
+    }
+    read_refused_line(line, rest)
+}
+
+// Behind `? `.
+#[tactic(auto, unfolding(khepri_types::specs::ReadingOut::pending_line))]
+fn read_pending_line(text: &[u8]) -> Option<OutLine>
+    ensures { MatchOption result (pending_line text.now ≡ None) (λ x. pending_line text.now ≡ Some x) }
+{
+    let (line, rest) = read_number_before(text, b" ")?;
+    let n = read_whole_number(rest)?;
+    Some(OutLine::Pending { line, n })
+}
+
+// Behind `* `.
+#[tactic(auto, unfolding(khepri_types::specs::ReadingOut::rows_line))]
+fn read_rows_line(text: &[u8]) -> Option<OutLine>
+    ensures { MatchOption result (rows_line text.now ≡ None) (λ x. rows_line text.now ≡ Some x) }
+{
+    let (line, rest) = read_number_before(text, b" ")?;
+    let (n, rest) = read_number_before(rest, b" ")?;
+    let rows = read_rows(rest)?;
+    Some(OutLine::Read { line, n, rows })
+}
+
+#[tactic(auto, unfolding(khepri_types::specs::ReadingOut::leads_line))]
+fn read_leads_line(node: u8, text: &[u8]) -> Option<OutLine>
+    ensures { MatchOption result (leads_line node text.now ≡ None) (λ x. leads_line node text.now ≡ Some x) }
+{
+    let term = read_whole_number(text)?;
+    Some(OutLine::Leads { node, term })
+}
+
+#[tactic(auto, unfolding(khepri_types::specs::ReadingOut::follows_line))]
+fn read_follows_line(node: u8, text: &[u8]) -> Option<OutLine>
+    ensures { MatchOption result (follows_line node text.now ≡ None) (λ x. follows_line node text.now ≡ Some x) }
+{
+    let term = read_whole_number(text)?;
+    Some(OutLine::Follows { node, term })
+}
+
+#[tactic(auto, unfolding(khepri_types::specs::ReadingOut::stopped_line))]
+fn read_stopped_line(node: u8, text: &[u8]) -> Option<OutLine>
+    ensures { MatchOption result (stopped_line node text.now ≡ None) (λ x. stopped_line node text.now ≡ Some x) }
+{
+    let cause = read_stop(text)?;
+    Some(OutLine::Stopped { node, cause })
+}
+
+// What is said of a node.
+#[tactic(auto, unfolding(khepri_types::specs::ReadingOut::node_news))]
+fn read_news(node: u8, text: &[u8]) -> Option<OutLine>
+    ensures { MatchOption result (node_news node text.now ≡ None) (λ x. node_news node text.now ≡ Some x) }
+{
+    if let Some(rest) = text.strip_prefix(b"leads ") {
+        return read_leads_line(node, rest);
+    }
+    if let Some(rest) = text.strip_prefix(b"follows ") {
+        return read_follows_line(node, rest);
+    }
+    if let Some(rest) = text.strip_prefix(b"stopped ") {
+        return read_stopped_line(node, rest);
+    }
+    if is_word(text, b"started") {
+        return Some(OutLine::Started { node });
+    }
+    None
+}
+
+// Behind `! `.
+#[tactic(auto, unfolding(khepri_types::specs::ReadingOut::node_line))]
+fn read_node_line(text: &[u8]) -> Option<OutLine>
+    ensures { MatchOption result (node_line text.now ≡ None) (λ x. node_line text.now ≡ Some x) }
+{
+    match text {
+        [digit @ b'1'..=b'9', b' ', rest @ ..] => read_news(*digit - b'0', rest),
+        _ => None,
+    }
+}
+
+/// The output line that the whole text spells, its LF not included. `Bad` says that it spells none.
+#[tactic(auto, using(crate::proofs::Grammar::out_read))]
+pub fn read_out(alloc: Global, text: &[u8]) -> Result<OutLine, TextFault>
+    ensures value { IfOk result (λ line. out_at text.now ≡ Some line) }
+    ensures bad { result ≡ Err TextFault.Bad → out_at text.now ≡ None }
+    ensures spelled { IfOk result (λ line. SpellsOut text.now line) }
+    ensures none { result ≡ Err TextFault.Bad → IsNoOut text.now }
+{
+    match_out(alloc, text)
+}
+
+// By the first sign.
+#[tactic(auto, unfolding(khepri_types::specs::ReadingOut::out_at))]
+fn match_out(alloc: Global, text: &[u8]) -> Result<OutLine, TextFault>
+    ensures value { IfOk result (λ line. out_at text.now ≡ Some line) }
+    ensures bad { result ≡ Err TextFault.Bad → out_at text.now ≡ None }
+{
+    if let Some(rest) = text.strip_prefix(b"# ") {
+        return read_entry_line(alloc, rest);
+    }
+    if let Some(rest) = text.strip_prefix(b"= ") {
+        return read_reply_line(alloc, rest);
+    }
+    if let Some(rest) = text.strip_prefix(b"- ") {
+        return read_end_line(rest).ok_or(TextFault::Bad);
+    }
+    if let Some(rest) = text.strip_prefix(b"? ") {
+        return read_pending_line(rest).ok_or(TextFault::Bad);
+    }
+    if let Some(rest) = text.strip_prefix(b"* ") {
+        return read_rows_line(rest).ok_or(TextFault::Bad);
+    }
+    if let Some(rest) = text.strip_prefix(b"! ") {
+        return read_node_line(rest).ok_or(TextFault::Bad);
+    }
+    Err(TextFault::Bad)
+}

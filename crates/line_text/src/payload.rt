@@ -1,0 +1,37 @@
+// Payloads.
+ghost use Rattle.std.specs.Prelude.{◌≡◌, ◌++◌, length, take, IfOk, OnOk, Err, Some, None};
+ghost use Rattle.khepri_types.specs.Texts.{payload_text};
+ghost use Rattle.khepri_types.specs.Reading.{spelled_payload};
+
+use crate::words::is_word;
+use khepri_terms::{Rec, TextFault};
+use khepri_types::Payload;
+use std::alloc::{AllocError, Global};
+
+#[tactic(auto, unfolding(khepri_types::specs::Texts::payload_text))]
+pub(crate) fn append_payload(payload: &Payload, out: &mut Vec<u8>) -> Result<(), AllocError>
+    ensures ok { OnOk result (out.new.items ≡ out.old.items ++ payload_text payload.now) }
+    ensures front { take (length out.old.items) out.new.items ≡ out.old.items }
+{
+    match payload {
+        Payload::Empty => out.push(b'-')?,
+        Payload::Fields(rec) => rec.print(out)?,
+    }
+    Ok(())
+}
+
+/// The payload that the whole text spells.
+#[tactic(auto, unfolding(khepri_types::specs::Reading::spelled_payload))]
+pub(crate) fn read_payload(alloc: Global, text: &[u8]) -> Result<Payload, TextFault>
+    ensures value { IfOk result (λ x. spelled_payload text.now ≡ Some x) }
+    ensures bad { result ≡ Err TextFault.Bad → spelled_payload text.now ≡ None }
+{
+    if is_word(text, b"-") {
+        return Ok(Payload::Empty);
+    }
+    let (rec, rest) = Rec::read(alloc, text)?;
+    match rest {
+        [] => Ok(Payload::Fields(rec)),
+        [_, ..] => Err(TextFault::Bad),
+    }
+}

@@ -1,0 +1,12 @@
+//! Worked examples: for each library of the repository a file of tests, which call it through its public face alone and
+//! compare what it answers with values that were worked out by hand.
+#![tactic(auto)]
+
+#[cfg(test)]
+mod cut_lines;
+#[cfg(test)]
+mod lines;
+#[cfg(test)]
+mod logs;
+#[cfg(test)]
+mod terms;

@@ -1,0 +1,257 @@
+use khepri_terms::TextFault;
+use khepri_types::{Line, Payload, Reply};
+use line_text::{print_command, print_out, print_reply, read_command, read_line, read_out};
+use std::alloc::{AllocError, Global};
+use std::test::Fail;
+
+// Input lines.
+const LINES: [&str; 19] = [
+    "@1 put / -",
+    "@9 put / {}",
+    "@1 put /a/:b/%2E {a=1,b='x%20y}",
+    "@1 put /- -",
+    "@1 put /a {a=-9223372036854775808}",
+    "@2 create /a -",
+    "@2 create /a/b {%2E='.}",
+    "@3 update /a -",
+    "@3 update /:a/b.c {a='}",
+    "@4 clear /",
+    "@4 clear /a",
+    "@5 del /",
+    "@5 del /a/b/c",
+    "@6 get /",
+    "@6 get /%2E.",
+    "@1 put /put -",
+    "@1 get /1/1/1/1/1/1/1/1/1/1/1/1/1/1/1/1/1/1/1/1/1/1/1/1/1/1/1/1/1/1/1/1/1",
+    "@1 put /1/1/1/1/1/1/1/1/1/1/1/1/1/1/1/1/1/1/1/1/1/1/1/1/1/1/1/1/1/1/1/1/1 -",
+    "@1 create /%00%FF/~ {key='%00%FF}",
+];
+
+// What is no input line.
+const NO_LINES: [&str; 42] = [
+    "",
+    "@",
+    "@1",
+    "@1 ",
+    "@0 get /",
+    "@: get /",
+    "@10 get /",
+    "@1get /",
+    "@1  get /",
+    " @1 get /",
+    "1 get /",
+    "@1 get",
+    "@1 get ",
+    "@1 get  /",
+    "@1 get / ",
+    "@1 get /\n",
+    "@1 get //",
+    "@1 get /a/",
+    "@1 get /..",
+    "@1 get a",
+    "@1 GET /a",
+    "@1 get /a -",
+    "@1 clear /a -",
+    "@1 del /a {}",
+    "@1 put /a",
+    "@1 put /a ",
+    "@1 put /a  -",
+    "@1 put /a --",
+    "@1 put /a - ",
+    "@1 put /a -{}",
+    "@1 put /a {}x",
+    "@1 put /a {}{}",
+    "@1 put /a {} ",
+    "@1 put /a {a=-0}",
+    "@1 put /a {a=1,a=2}",
+    "@1 put /a {b=1,a=2}",
+    "@1 put /a% -",
+    "@1 put /%61 -",
+    "@1 puts /a -",
+    "@1 noop",
+    "@1 fire 1",
+    "!beat 1",
+];
+
+// Output lines.
+const OUT_LINES: [&str; 38] = [
+    "# 1 @1 put /a {}",
+    "# 2 @0 put /a -",
+    "# 3 @0 noop",
+    "# 4 @0 fire 1",
+    "# 9223372036854775807 @9223372036854775807 get /",
+    "# 0 @0 fire 0",
+    "= 1 1 ok 1 0",
+    "= 1 1 ok 0 9223372036854775807",
+    "= 0 3 node 1 2 3 -",
+    "= 2 3 node 1 2 3 {a=1}",
+    "= 1 2 no root",
+    "= 1 2 no deep",
+    "= 1 2 no exists",
+    "= 1 2 no absent",
+    "= 1 2 no full",
+    "- 1 lost",
+    "? 1 2",
+    "* 1 2 none",
+    "- 1 toolong",
+    "- 1 badline",
+    "- 1 nonode",
+    "- 1 running",
+    "- 1 stopped",
+    "- 1 notleader",
+    "- 1 logfull",
+    "- 1 backlog",
+    "- 1 noslot",
+    "! 1 leads 1",
+    "! 9 leads 0",
+    "! 1 follows 12",
+    "! 2 stopped order",
+    "! 2 stopped vault",
+    "! 2 stopped memory",
+    "! 2 stopped bad",
+    "! 3 started",
+    "# 10 @10 del /",
+    "= 10 20 ok 1000000 0",
+    "? 0 0",
+];
+
+// What is no output line.
+const NO_OUT_LINES: [&str; 44] = [
+    "",
+    "#",
+    "# ",
+    "# 1",
+    "# 1 @1",
+    "# 1 @1 ",
+    "# 1 @1 noop",
+    "# 1 @1 fire 1",
+    "# 1 1 get /",
+    "# 01 @1 get /",
+    "# 1 @01 get /",
+    "# 1 @00 noop",
+    "# 1 @0 fire",
+    "# 1 @0 fire 01",
+    "# 1 @0 fire 1 ",
+    "# 1 @0 noop ",
+    "# 9223372036854775808 @0 noop",
+    "# 1 @1 @1 get /",
+    "#1 @1 get /",
+    "= 1 1 ok",
+    "= 1 1 ok 1",
+    "= 1 1 ok 1 ",
+    "= 1 1 ok 1 0 0",
+    "= 1 1 ok 01 0",
+    "= 1 1 node 1 1 1",
+    "= 1 1 node 1 1 -",
+    "= 1 1 node 1 1 1 -x",
+    "= 1 1 no name",
+    "= 1 1 no root ",
+    "= -1 1 no root",
+    "- 1",
+    "- 1 late",
+    "- 1 lost ",
+    "- 18446744073709551616 lost",
+    "? 1",
+    "? 1 2 ",
+    "* 1 2 0",
+    "* 1 2 none ",
+    "! 0 started",
+    "! 10 leads 1",
+    "! 1 leads",
+    "! 1 leads 1 ",
+    "! 1 stopped",
+    "! 1 stopped full",
+];
+
+// What is read of a text, spelled again, or `!` where it is refused.
+fn refused(alloc: Global, fault: TextFault) -> Result<Vec<u8>, AllocError> {
+    match fault {
+        TextFault::Bad => Vec::from_slice(alloc, b"!"),
+        TextFault::NoMemory => Err(AllocError),
+    }
+}
+
+fn line_again(alloc: Global, text: &[u8]) -> Result<Vec<u8>, AllocError> {
+    match read_line(alloc, text) {
+        Ok(Line::Command { node, cmd }) => {
+            let mut out = Vec::new(alloc);
+            out.push(b'@')?;
+            out.push(b'0'.saturating_add(node))?;
+            out.push(b' ')?;
+            print_command(&cmd, &mut out)?;
+            Ok(out)
+        }
+        Err(fault) => refused(alloc, fault),
+    }
+}
+
+fn command_again(alloc: Global, text: &[u8]) -> Result<Vec<u8>, AllocError> {
+    match read_command(alloc, text) {
+        Ok(cmd) => {
+            let mut out = Vec::new(alloc);
+            print_command(&cmd, &mut out)?;
+            Ok(out)
+        }
+        Err(fault) => refused(alloc, fault),
+    }
+}
+
+fn out_again(alloc: Global, text: &[u8]) -> Result<Vec<u8>, AllocError> {
+    match read_out(alloc, text) {
+        Ok(line) => {
+            let mut out = Vec::new(alloc);
+            print_out(&line, &mut out)?;
+            Ok(out)
+        }
+        Err(fault) => refused(alloc, fault),
+    }
+}
+
+#[test]
+fn lines_in(rt: HostRuntime) -> Result<(), Fail> {
+    let alloc = rt.alloc();
+    for text in &LINES {
+        let again = line_again(alloc, text.as_bytes())?;
+        assert_eq!(rt; again.as_slice(), text.as_bytes(), "{text}");
+        if let [_, _, _, cmd @ ..] = text.as_bytes() {
+            let again = command_again(alloc, cmd)?;
+            assert_eq!(rt; again.as_slice(), cmd, "{text}");
+        }
+    }
+    for text in &NO_LINES {
+        let again = line_again(alloc, text.as_bytes())?;
+        assert_eq!(rt; again.as_slice(), b"!".as_slice(), "{text}");
+    }
+    Ok(())
+}
+
+#[test]
+fn lines_out(rt: HostRuntime) -> Result<(), Fail> {
+    let alloc = rt.alloc();
+    for text in &OUT_LINES {
+        let again = out_again(alloc, text.as_bytes())?;
+        assert_eq!(rt; again.as_slice(), text.as_bytes(), "{text}");
+    }
+    for text in &NO_OUT_LINES {
+        let again = out_again(alloc, text.as_bytes())?;
+        assert_eq!(rt; again.as_slice(), b"!".as_slice(), "{text}");
+    }
+    for (reply, text) in [
+        (Reply::Changed { count: 2, gone: 3 }, "ok 2 3"),
+        (
+            Reply::Node {
+                pv: 1,
+                cv: 2,
+                kids: 3,
+                payload: Payload::Empty,
+            },
+            "node 1 2 3 -",
+        ),
+        (Reply::NoFull, "no full"),
+    ] {
+        let mut out = Vec::new(alloc);
+        print_reply(&reply, &mut out)?;
+        assert_eq!(rt; out.as_slice(), text.as_bytes(), "{text}");
+    }
+    Ok(())
+}
