@@ -17,6 +17,7 @@ use Rattle.khepri_types.specs.History.{empty_opening}
 use Rattle.khepri_types.specs.Legal.{Legal}
 use Rattle.khepri_types.specs.Calm.{calm, text_of}
 use Rattle.khepri_types.proofs.Legality.{calm-legal}
+use Rattle.khepri_types.proofs.Staying.{stays-stable}
 use Rattle.khepri.specs.Told.{told, after, told_text}
 use Rattle.khepri.specs.Session.{Session, Took, IsAtEnd, IsFrontOf, IsBrokenOff, Says, calm_text}
 use Rattle.khepri.specs.declared.status.Status.{Status}
@@ -149,7 +150,7 @@ within_lines budget room bytes gave (inr few) spent over = few
 
 -- what is written for the lines of so many bytes is legal
 legal_of : (bytes : List ℕ) → length bytes ≤ MAX_INPUT_BYTES + 1 → Legal empty_opening (lines bytes) (calm (lines bytes))
-legal_of bytes most = calm-legal (lines bytes) (omega (arith, few_lines bytes))
+legal_of bytes most = calm-legal (lines bytes) (omega (arith, few_lines bytes, most))
 
 most_of : (limit budget : ℕ) (left left' : Option (List ℕ)) (r : Reading) (bytes : List ℕ) (gave : List (Option (List ℕ))) → SoFar limit budget left left' r bytes gave → length bytes ≤ budget + 1
 most_of limit budget left left' r bytes gave p = omega (arith, p.spent)
@@ -167,6 +168,7 @@ ends s left held left' held' r bytes gave more p w says =
       took = took_of left left' bytes r.ended p.took;
       wrote = w;
       legal = legal_of bytes (most_of MAX_LINE_BYTES MAX_INPUT_BYTES left left' r bytes (gave ++ more) p);
+      stable = stays-stable (calm (lines bytes));
       front = front_first gave bytes (first-shorter MAX_LINE_BYTES gave more bytes p.first);
       most = most_of MAX_LINE_BYTES MAX_INPUT_BYTES left left' r bytes (gave ++ more) p;
       says = says;
@@ -273,6 +275,7 @@ on_sink_fault left held left1 held1 held2 r l S next text a et w =
       took = took_of left left1 a.bytes r.ended a.progress.took;
       wrote = Appends-then held held1 held2 (told_text a.gave) (take w.0 text) a.wrote w.2;
       legal = legal_of a.bytes (most_of MAX_LINE_BYTES MAX_INPUT_BYTES left left1 r a.bytes (a.gave ++ given_next next) a.progress);
+      stable = stays-stable (calm (lines a.bytes));
       front = front-then (told_text a.gave) text (calm_text (lines a.bytes)) w.0 (subst (λ (x : List ℕ). IsFrontOf x (calm_text (lines a.bytes))) more (front_first (a.gave ++ given_next next) a.bytes a.progress.first));
       most = most_of MAX_LINE_BYTES MAX_INPUT_BYTES left left1 r a.bytes (a.gave ++ given_next next) a.progress;
       says = broken_off a.gave (given_next next) a.bytes text r w.0 a.one w.1 more a.progress.first a.progress.within a.progress.spent;
@@ -290,6 +293,7 @@ unopened s left held held' n says w =
       took = took_of left left [] false p.took;
       wrote = w;
       legal = legal_of [] (omega arith);
+      stable = stays-stable (calm (lines []));
       front = front-then [] (told_text []) (calm_text (lines [])) n (front_first [] [] p.first);
       most = omega arith;
       says = says;

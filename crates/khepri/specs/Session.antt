@@ -3,7 +3,7 @@ use Rattle.std.specs.Prelude.{◌≡◌, ℕ, ◌+◌, ◌-◌, ◌<◌, ◌≤�
 use Rattle.line_io.specs.Lines.{lines, whole_lines}
 use Rattle.line_io.specs.Streams.{Appends, AppendsPart}
 use Rattle.khepri_types.specs.declared.limits.TheConstants.{MAX_INPUT_BYTES}
-use Rattle.khepri_types.specs.History.{empty_opening}
+use Rattle.khepri_types.specs.History.{empty_opening, StaysStable}
 use Rattle.khepri_types.specs.Legal.{Legal}
 use Rattle.khepri_types.specs.Calm.{calm, text_of}
 use Rattle.khepri.specs.Words.{usage_line}
@@ -70,6 +70,7 @@ pub record Session (status : Status) (left left' held held' : Option (List ℕ))
   pub took : Took left left' bytes
   pub wrote : Appends held held' written
   pub legal : Legal empty_opening (lines bytes) (calm (lines bytes))
+  pub stable : StaysStable empty_opening (calm (lines bytes))
   pub front : IsFrontOf written (calm_text (lines bytes))
   pub most : length bytes ≤ MAX_INPUT_BYTES + 1
   pub says : Says status left' bytes written

@@ -1,7 +1,6 @@
 // The answer to one line.
 ghost use Rattle.std.specs.Prelude.{◌≡◌, ◌<◌, ◌^◌, ◌++◌, OnOk, Some};
 ghost use Rattle.line_io.specs.Shown.{given_next};
-ghost use Rattle.khepri_machine.specs.Machine.{state_of};
 ghost use Rattle.khepri_types.specs.declared.command.Line.TheVariants as line_of;
 ghost use Rattle.khepri_types.specs.Calm.{answer_line, ended, text_of};
 ghost use Rattle.khepri.specs.Told.{command_of, told, after};
@@ -30,9 +29,9 @@ pub fn answer(
     next: Next,
     out: &mut Vec<u8>,
 ) -> Result<(), AllocError>
-    requires { (state_of machine.old).position < 2 ^ 40 }
-    ensures text { OnOk result (out.new.items ≡ out.old.items ++ text_of (told number (state_of machine.old) (given_next next))) }
-    ensures state { OnOk result (state_of machine.new ≡ after number (state_of machine.old) (given_next next)) }
+    requires { machine.old.position < 2 ^ 40 }
+    ensures text { OnOk result (out.new.items ≡ out.old.items ++ text_of (told number machine.old (given_next next))) }
+    ensures state { OnOk result (machine.new ≡ after number machine.old (given_next next)) }
 {
     match next {
         Next::End => Ok(()),
@@ -68,12 +67,12 @@ fn execute(
     cmd: Command,
     out: &mut Vec<u8>,
 ) -> Result<(), AllocError>
-    requires { (state_of machine.old).position < 2 ^ 40 }
-    ensures text { OnOk result (out.new.items ≡ out.old.items ++ text_of (answer_line line (state_of machine.old) (Some (line_of.Command 1 cmd))).0) }
-    ensures state { OnOk result (state_of machine.new ≡ (answer_line line (state_of machine.old) (Some (line_of.Command 1 cmd))).1) }
+    requires { machine.old.position < 2 ^ 40 }
+    ensures text { OnOk result (out.new.items ≡ out.old.items ++ text_of (answer_line line machine.old (Some (line_of.Command 1 cmd))).0) }
+    ensures state { OnOk result (machine.new ≡ (answer_line line machine.old (Some (line_of.Command 1 cmd))).1) }
 {
     let entry = Entry::Command { conn: 0, line, cmd };
-    let reply = machine.exec(&entry)?;
+    let reply = machine.exec_uncounted(&entry)?;
     let n = machine.position();
     let text = EntryText::Command(command_of(entry));
     put_out(out, OutLine::Entry { n, line, text })?;

@@ -92,7 +92,7 @@ fn count_ends(bytes: &[u8]) -> usize {
 }
 
 // Sessions: what is read, and what is written behind the first line.
-const SESSIONS: [(&str, &str); 9] = [
+const SESSIONS: [(&str, &str); 17] = [
     ("", ""),
     // CR LF, and a last line without LF
     (
@@ -162,40 +162,236 @@ const SESSIONS: [(&str, &str); 9] = [
          # 7 @7 del /1/2/3/4/5/6/7/8/9/0/1/2/3/4/5/6/7/8/9/0/1/2/3/4/5/6/7/8/9/0/1/2/3\n= 7 7 ok 0 0\n\
          # 8 @8 del /1\n= 8 8 ok 32 0\n",
     ),
+    // mutual watches
+    (
+        "@1 put /b -\n\
+         @1 put /a - while /b exists\n\
+         @1 put /b - while /a exists\n\
+         @1 get /b\n\
+         @1 del /a\n\
+         @1 count /**\n",
+        "# 1 @1 put /b -\n\
+         = 1 1 ok 1 0\n\
+         # 2 @2 put /a - while /b exists\n\
+         = 2 2 ok 1 0\n\
+         # 3 @3 put /b - while /a exists\n\
+         = 3 3 ok 1 0\n\
+         # 4 @4 get /b\n\
+         = 4 4 node 1 1 0 -\n\
+         # 5 @5 del /a\n\
+         = 5 5 ok 1 1\n\
+         # 6 @6 count /**\n\
+         = 6 6 count 0\n",
+    ),
+    // a watch on itself
+    (
+        "@1 put /s - while /s kids(gt,0)\n\
+         @1 get /s\n\
+         @1 put /s - while /s exists\n\
+         @1 get /s\n",
+        "# 1 @1 put /s - while /s kids(gt,0)\n\
+         = 1 1 no while /s\n\
+         # 2 @2 get /s\n\
+         = 2 2 no absent\n\
+         # 3 @3 put /s - while /s exists\n\
+         = 3 3 ok 1 0\n\
+         # 4 @4 get /s\n\
+         = 4 4 node 1 1 0 -\n",
+    ),
+    // rounds decide
+    (
+        "@1 put /p/1 -\n\
+         @1 put /p/2 -\n\
+         @1 put /p - while /p/1 exists\n\
+         @1 put /w - while /p any(absent,kids(ge,2))\n\
+         @1 del /p/1\n\
+         @1 count /**\n",
+        "# 1 @1 put /p/1 -\n\
+         = 1 1 ok 1 0\n\
+         # 2 @2 put /p/2 -\n\
+         = 2 2 ok 1 0\n\
+         # 3 @3 put /p - while /p/1 exists\n\
+         = 3 3 ok 1 0\n\
+         # 4 @4 put /w - while /p any(absent,kids(ge,2))\n\
+         = 4 4 ok 1 0\n\
+         # 5 @5 del /p/1\n\
+         = 5 5 ok 1 3\n\
+         # 6 @6 count /**\n\
+         = 6 6 count 0\n",
+    ),
+    // a put that breaks its parent
+    (
+        "@1 put /g/1 -\n\
+         @1 put /g/2 -\n\
+         @1 put /g - while /g kids(le,2)\n\
+         @1 put /g/3 -\n\
+         @1 get /g/3\n",
+        "# 1 @1 put /g/1 -\n\
+         = 1 1 ok 1 0\n\
+         # 2 @2 put /g/2 -\n\
+         = 2 2 ok 1 0\n\
+         # 3 @3 put /g - while /g kids(le,2)\n\
+         = 3 3 ok 1 0\n\
+         # 4 @4 put /g/3 -\n\
+         = 4 4 ok 1 4\n\
+         # 5 @5 get /g/3\n\
+         = 5 5 no absent\n",
+    ),
+    // counts
+    (
+        "@1 put /a/b/c {}\n\
+         @1 count /**\n\
+         @1 count /*/**\n\
+         @1 count /**/c\n\
+         @1 count /\n\
+         @1 count /[kids(ge,1)]\n\
+         @1 count /[any()]\n\
+         @1 count /[all()]\n",
+        "# 1 @1 put /a/b/c {}\n\
+         = 1 1 ok 1 0\n\
+         # 2 @2 count /**\n\
+         = 2 2 count 3\n\
+         # 3 @3 count /*/**\n\
+         = 3 3 count 2\n\
+         # 4 @4 count /**/c\n\
+         = 4 4 count 1\n\
+         # 5 @5 count /\n\
+         = 5 5 count 1\n\
+         # 6 @6 count /[kids(ge,1)]\n\
+         = 6 6 count 1\n\
+         # 7 @7 count /[any()]\n\
+         = 7 7 count 0\n\
+         # 8 @8 count /[all()]\n\
+         = 8 8 count 1\n",
+    ),
+    // refusals
+    (
+        "@1 create /a {x=1}\n\
+         @1 create /a {x=2}\n\
+         @1 update /z -\n\
+         @1 cas /a field(x,eq,2) {x=3}\n\
+         @1 cas /a all(data,pv(eq,1)) {x=3}\n\
+         @1 del /\n\
+         @1 del /z\n\
+         @1 put /b - while /z exists\n\
+         @1 many /* 1\n\
+         @1 delmany /[name(a*)]\n\
+         @1 clear /a\n\
+         put /a\n\
+         @1 put /a/../b -\n",
+        "# 1 @1 create /a {x=1}\n\
+         = 1 1 ok 1 0\n\
+         # 2 @2 create /a {x=2}\n\
+         = 2 2 no exists\n\
+         # 3 @3 update /z -\n\
+         = 3 3 no absent\n\
+         # 4 @4 cas /a field(x,eq,2) {x=3}\n\
+         = 4 4 no mismatch\n\
+         # 5 @5 cas /a all(data,pv(eq,1)) {x=3}\n\
+         = 5 5 ok 2 0\n\
+         # 6 @6 del /\n\
+         = 6 6 no root\n\
+         # 7 @7 del /z\n\
+         = 7 7 ok 0 0\n\
+         # 8 @8 put /b - while /z exists\n\
+         = 8 8 no while /z\n\
+         # 9 @9 many /* 1\n\
+         = 9 9 nodes 1 /a 2 1 0 {x=3}\n\
+         # 10 @10 delmany /[name(a*)]\n\
+         = 10 10 ok 1 0\n\
+         # 11 @11 clear /a\n\
+         = 11 11 no absent\n\
+         - 12 badline\n\
+         - 13 badline\n",
+    ),
+    // what is said of watches
+    (
+        "@1 put / - free\n\
+         @1 put / - while /a exists\n\
+         @1 put /a - free\n\
+         @1 put /t -\n\
+         @1 put /a - while /t exists while /a exists\n\
+         @1 put /a {}\n\
+         @1 put /a - free\n\
+         @1 del /t\n\
+         @1 get /a\n\
+         @1 cas /a not(exists) -\n\
+         @1 cas /z not(exists) - while /t exists\n\
+         @1 cas /z not(exists) - while /a exists\n\
+         @1 delmany /[absent]\n\
+         @1 delmany /*\n",
+        "# 1 @1 put / - free\n\
+         = 1 1 no root\n\
+         # 2 @2 put / - while /a exists\n\
+         = 2 2 no root\n\
+         # 3 @3 put /a - free\n\
+         = 3 3 ok 1 0\n\
+         # 4 @4 put /t -\n\
+         = 4 4 ok 1 0\n\
+         # 5 @5 put /a - while /t exists while /a exists\n\
+         = 5 5 ok 1 0\n\
+         # 6 @6 put /a {}\n\
+         = 6 6 ok 2 0\n\
+         # 7 @7 put /a - free\n\
+         = 7 7 ok 3 0\n\
+         # 8 @8 del /t\n\
+         = 8 8 ok 1 0\n\
+         # 9 @9 get /a\n\
+         = 9 9 node 3 1 0 -\n\
+         # 10 @10 cas /a not(exists) -\n\
+         = 10 10 no mismatch\n\
+         # 11 @11 cas /z not(exists) - while /t exists\n\
+         = 11 11 no while /t\n\
+         # 12 @12 cas /z not(exists) - while /a exists\n\
+         = 12 12 ok 1 0\n\
+         # 13 @13 delmany /[absent]\n\
+         = 13 13 ok 0 0\n\
+         # 14 @14 delmany /*\n\
+         = 14 14 ok 2 0\n",
+    ),
+    // a target of 33 names
+    (
+        "@1 put /a - while /1/2/3/4/5/6/7/8/9/0/1/2/3/4/5/6/7/8/9/0/1/2/3/4/5/6/7/8/9/0/1/2/3 absent\n\
+         @1 put /a - while /1/2/3/4/5/6/7/8/9/0/1/2/3/4/5/6/7/8/9/0/1/2/3/4/5/6/7/8/9/0/1/2 absent\n",
+        "# 1 @1 put /a - while /1/2/3/4/5/6/7/8/9/0/1/2/3/4/5/6/7/8/9/0/1/2/3/4/5/6/7/8/9/0/1/2/3 absent\n\
+         = 1 1 no deep\n\
+         # 2 @2 put /a - while /1/2/3/4/5/6/7/8/9/0/1/2/3/4/5/6/7/8/9/0/1/2/3/4/5/6/7/8/9/0/1/2 absent\n\
+         = 2 2 ok 1 0\n",
+    ),
 ];
 
 // The example of README.md, and those of docs/LANGUAGE.md in its order.
-const EXAMPLES: [(&str, &str); 8] = [
+const EXAMPLES: [(&str, &str); 14] = [
     // a broker's day
     (
-        "@1 create /vhosts/%2F {}\n\
-         @1 create /vhosts/%2F/exchanges/logs {type='topic}\n\
-         @1 create /vhosts/%2F/queues/q1 {durable=1}\n\
+        "@1 put /vhosts/%2F {}\n\
+         @1 put /vhosts/%2F/exchanges/logs {type='topic}\n\
+         @1 put /vhosts/%2F/queues/q1 {durable=1}\n\
+         @1 create /vhosts/%2F/exchanges/logs/b1 {key='app.%2A,to='q1} while /vhosts/%2F/queues/q1 exists\n\
          @1 create /vhosts/%2F/queues/q1 {durable=0}\n\
-         @1 put /vhosts/%2F/exchanges/logs/b1 {key='app.%2A,to='q1}\n\
-         @1 update /vhosts/%2F/queues/q1 {durable=0}\n\
-         @1 get /vhosts/%2F/queues/q1\n\
-         @1 del /vhosts/%2F/exchanges/logs\n\
-         @1 get /vhosts/%2F/exchanges\n\
+         @1 cas /vhosts/%2F/queues/q1 field(durable,eq,1) {durable=0}\n\
+         @1 many /vhosts/*/queues/[data] 10\n\
+         @1 count /vhosts/*/exchanges/*/*\n\
+         @1 del /vhosts/%2F/queues/q1\n\
          @1 get /vhosts/%2F/exchanges/logs/b1\n",
-        "# 1 @1 create /vhosts/%2F {}\n\
+        "# 1 @1 put /vhosts/%2F {}\n\
          = 1 1 ok 1 0\n\
-         # 2 @2 create /vhosts/%2F/exchanges/logs {type='topic}\n\
+         # 2 @2 put /vhosts/%2F/exchanges/logs {type='topic}\n\
          = 2 2 ok 1 0\n\
-         # 3 @3 create /vhosts/%2F/queues/q1 {durable=1}\n\
+         # 3 @3 put /vhosts/%2F/queues/q1 {durable=1}\n\
          = 3 3 ok 1 0\n\
-         # 4 @4 create /vhosts/%2F/queues/q1 {durable=0}\n\
-         = 4 4 no exists\n\
-         # 5 @5 put /vhosts/%2F/exchanges/logs/b1 {key='app.%2A,to='q1}\n\
-         = 5 5 ok 1 0\n\
-         # 6 @6 update /vhosts/%2F/queues/q1 {durable=0}\n\
+         # 4 @4 create /vhosts/%2F/exchanges/logs/b1 {key='app.%2A,to='q1} while /vhosts/%2F/queues/q1 exists\n\
+         = 4 4 ok 1 0\n\
+         # 5 @5 create /vhosts/%2F/queues/q1 {durable=0}\n\
+         = 5 5 no exists\n\
+         # 6 @6 cas /vhosts/%2F/queues/q1 field(durable,eq,1) {durable=0}\n\
          = 6 6 ok 2 0\n\
-         # 7 @7 get /vhosts/%2F/queues/q1\n\
-         = 7 7 node 2 1 0 {durable=0}\n\
-         # 8 @8 del /vhosts/%2F/exchanges/logs\n\
-         = 8 8 ok 2 0\n\
-         # 9 @9 get /vhosts/%2F/exchanges\n\
-         = 9 9 node 1 2 0 -\n\
+         # 7 @7 many /vhosts/*/queues/[data] 10\n\
+         = 7 7 nodes 1 /vhosts/%2F/queues/q1 2 1 0 {durable=0}\n\
+         # 8 @8 count /vhosts/*/exchanges/*/*\n\
+         = 8 8 count 1\n\
+         # 9 @9 del /vhosts/%2F/queues/q1\n\
+         = 9 9 ok 1 1\n\
          # 10 @10 get /vhosts/%2F/exchanges/logs/b1\n\
          = 10 10 no absent\n",
     ),
@@ -304,7 +500,133 @@ const EXAMPLES: [(&str, &str); 8] = [
          # 7 @7 del /\n\
          = 7 7 no root\n",
     ),
-    // refused lines
+    // cas
+    (
+        "@1 cas /lock absent {owner='n1}\n\
+         @1 cas /lock absent {owner='n2}\n\
+         @1 cas /lock field(owner,eq,'n1) {owner='n2}\n\
+         @1 cas /lock all(is({owner='n2}),pv(eq,2)) -\n\
+         @1 get /lock\n",
+        "# 1 @1 cas /lock absent {owner='n1}\n\
+         = 1 1 ok 1 0\n\
+         # 2 @2 cas /lock absent {owner='n2}\n\
+         = 2 2 no mismatch\n\
+         # 3 @3 cas /lock field(owner,eq,'n1) {owner='n2}\n\
+         = 3 3 ok 2 0\n\
+         # 4 @4 cas /lock all(is({owner='n2}),pv(eq,2)) -\n\
+         = 4 4 ok 3 0\n\
+         # 5 @5 get /lock\n\
+         = 5 5 node 3 1 0 -\n",
+    ),
+    // many and count
+    (
+        "@1 put /q/a {len=3}\n\
+         @1 put /q/b {len=70}\n\
+         @1 put /q/c/d -\n\
+         @1 count /**\n\
+         @1 many /q/* 2\n\
+         @1 many /q/[field(len,gt,10)] 10\n\
+         @1 count /**/[not(payload)]\n\
+         @1 count /\n",
+        "# 1 @1 put /q/a {len=3}\n\
+         = 1 1 ok 1 0\n\
+         # 2 @2 put /q/b {len=70}\n\
+         = 2 2 ok 1 0\n\
+         # 3 @3 put /q/c/d -\n\
+         = 3 3 ok 1 0\n\
+         # 4 @4 count /**\n\
+         = 4 4 count 5\n\
+         # 5 @5 many /q/* 2\n\
+         = 5 5 nodes 3 /q/a 1 1 0 {len=3} /q/b 1 1 0 {len=70}\n\
+         # 6 @6 many /q/[field(len,gt,10)] 10\n\
+         = 6 6 nodes 1 /q/b 1 1 0 {len=70}\n\
+         # 7 @7 count /**/[not(payload)]\n\
+         = 7 7 count 2\n\
+         # 8 @8 count /\n\
+         = 8 8 count 1\n",
+    ),
+    // delmany
+    (
+        "@1 put /tmp/a1 -\n\
+         @1 put /tmp/a2/x -\n\
+         @1 put /tmp/b -\n\
+         @1 delmany /tmp/[name(a*)]\n\
+         @1 get /tmp\n\
+         @1 delmany /tmp/**\n\
+         @1 delmany /\n",
+        "# 1 @1 put /tmp/a1 -\n\
+         = 1 1 ok 1 0\n\
+         # 2 @2 put /tmp/a2/x -\n\
+         = 2 2 ok 1 0\n\
+         # 3 @3 put /tmp/b -\n\
+         = 3 3 ok 1 0\n\
+         # 4 @4 delmany /tmp/[name(a*)]\n\
+         = 4 4 ok 3 0\n\
+         # 5 @5 get /tmp\n\
+         = 5 5 node 1 4 1 -\n\
+         # 6 @6 delmany /tmp/**\n\
+         = 6 6 ok 1 0\n\
+         # 7 @7 delmany /\n\
+         = 7 7 no root\n",
+    ),
+    // Watches
+    (
+        "@1 put /queues/q1 {durable=1}\n\
+         @1 create /bindings/b1 {to='q1} while /queues/q1 exists\n\
+         @1 put /bindings/b1 {key='x,to='q1}\n\
+         @1 del /queues/q1\n\
+         @1 get /bindings/b1\n\
+         @1 put /bindings/b2 {to='q1} while /queues/q1 exists\n",
+        "# 1 @1 put /queues/q1 {durable=1}\n\
+         = 1 1 ok 1 0\n\
+         # 2 @2 create /bindings/b1 {to='q1} while /queues/q1 exists\n\
+         = 2 2 ok 1 0\n\
+         # 3 @3 put /bindings/b1 {key='x,to='q1}\n\
+         = 3 3 ok 2 0\n\
+         # 4 @4 del /queues/q1\n\
+         = 4 4 ok 1 1\n\
+         # 5 @5 get /bindings/b1\n\
+         = 5 5 no absent\n\
+         # 6 @6 put /bindings/b2 {to='q1} while /queues/q1 exists\n\
+         = 6 6 no while /queues/q1\n",
+    ),
+    // Watches
+    (
+        "@1 put /p/1 -\n\
+         @1 put /p/2 -\n\
+         @1 put /p - while /p/1 exists\n\
+         @1 put /w - while /p any(absent,kids(ge,2))\n\
+         @1 del /p/1\n",
+        "# 1 @1 put /p/1 -\n\
+         = 1 1 ok 1 0\n\
+         # 2 @2 put /p/2 -\n\
+         = 2 2 ok 1 0\n\
+         # 3 @3 put /p - while /p/1 exists\n\
+         = 3 3 ok 1 0\n\
+         # 4 @4 put /w - while /p any(absent,kids(ge,2))\n\
+         = 4 4 ok 1 0\n\
+         # 5 @5 del /p/1\n\
+         = 5 5 ok 1 3\n",
+    ),
+    // Watches
+    (
+        "@1 put /g/1 -\n\
+         @1 put /g/2 -\n\
+         @1 put /g - while /g kids(le,2)\n\
+         @1 put /g/3 -\n\
+         @1 get /g\n",
+        "# 1 @1 put /g/1 -\n\
+         = 1 1 ok 1 0\n\
+         # 2 @2 put /g/2 -\n\
+         = 2 2 ok 1 0\n\
+         # 3 @3 put /g - while /g kids(le,2)\n\
+         = 3 3 ok 1 0\n\
+         # 4 @4 put /g/3 -\n\
+         = 4 4 ok 1 4\n\
+         # 5 @5 get /g\n\
+         = 5 5 no absent\n",
+    ),
+    // Lines out
     (
         "@1 get /%2f\n\
          @1 put /a/../b -\n\
@@ -321,6 +643,205 @@ const EXAMPLES: [(&str, &str); 8] = [
          = 6 1 node 1 1 0 -\n",
     ),
 ];
+
+// Patterns against small trees: what makes the tree, and for each pattern the nodes that it matches, worked out by hand.
+const PATTERNS: [(&str, &[(&str, &str)]); 3] = [
+    (
+        "@1 put /a/b/c {}\n",
+        &[
+            ("/", "nodes 1 / 1 2 1 -"),
+            ("/**", "nodes 3 /a 1 1 1 - /a/b 1 1 1 - /a/b/c 1 1 0 {}"),
+            ("/*/**", "nodes 2 /a/b 1 1 1 - /a/b/c 1 1 0 {}"),
+            ("/**/c", "nodes 1 /a/b/c 1 1 0 {}"),
+            ("/[kids(ge,1)]", "nodes 1 /a 1 1 1 -"),
+            ("/[any()]", "nodes 0"),
+            ("/[all()]", "nodes 1 /a 1 1 1 -"),
+            ("/*", "nodes 1 /a 1 1 1 -"),
+            ("/a", "nodes 1 /a 1 1 1 -"),
+            ("/b", "nodes 0"),
+            ("/a/b/c", "nodes 1 /a/b/c 1 1 0 {}"),
+            ("/a/**", "nodes 2 /a/b 1 1 1 - /a/b/c 1 1 0 {}"),
+            ("/a/b/c/**", "nodes 0"),
+            ("/**/**", "nodes 2 /a/b 1 1 1 - /a/b/c 1 1 0 {}"),
+            ("/**/**/**", "nodes 1 /a/b/c 1 1 0 {}"),
+            ("/**/**/**/**", "nodes 0"),
+            ("/*/*/*", "nodes 1 /a/b/c 1 1 0 {}"),
+            ("/**/*", "nodes 2 /a/b 1 1 1 - /a/b/c 1 1 0 {}"),
+            ("/**/b/*", "nodes 1 /a/b/c 1 1 0 {}"),
+            ("/**/a", "nodes 0"),
+            ("/**/[data]", "nodes 1 /a/b/c 1 1 0 {}"),
+            ("/**/[not(payload)]", "nodes 1 /a/b 1 1 1 -"),
+            ("/[absent]", "nodes 0"),
+            ("/**/[not(absent)]", "nodes 2 /a/b 1 1 1 - /a/b/c 1 1 0 {}"),
+        ],
+    ),
+    (
+        "@1 put /q/a {n=5,t='x}\n\
+         @1 put /q/b {n=10}\n\
+         @1 put /q/:a {n='5}\n\
+         @1 put /q/ab -\n\
+         @1 put /q/b {n=11}\n",
+        &[
+            (
+                "/q/*",
+                "nodes 4 /q/:a 1 1 0 {n='5} /q/a 1 1 0 {n=5,t='x} /q/ab 1 1 0 - /q/b 2 1 0 {n=11}",
+            ),
+            ("/q/a", "nodes 1 /q/a 1 1 0 {n=5,t='x}"),
+            ("/q/:a", "nodes 1 /q/:a 1 1 0 {n='5}"),
+            (
+                "/q/[name(*)]",
+                "nodes 3 /q/a 1 1 0 {n=5,t='x} /q/ab 1 1 0 - /q/b 2 1 0 {n=11}",
+            ),
+            ("/q/[name(:*)]", "nodes 1 /q/:a 1 1 0 {n='5}"),
+            (
+                "/q/[name(a*)]",
+                "nodes 2 /q/a 1 1 0 {n=5,t='x} /q/ab 1 1 0 -",
+            ),
+            ("/q/[name(*b)]", "nodes 2 /q/ab 1 1 0 - /q/b 2 1 0 {n=11}"),
+            ("/q/[name(a*b)]", "nodes 1 /q/ab 1 1 0 -"),
+            ("/q/[name(a**b)]", "nodes 1 /q/ab 1 1 0 -"),
+            (
+                "/q/[field(n,gt,5)]",
+                "nodes 2 /q/:a 1 1 0 {n='5} /q/b 2 1 0 {n=11}",
+            ),
+            ("/q/[field(n,le,5)]", "nodes 1 /q/a 1 1 0 {n=5,t='x}"),
+            (
+                "/q/[field(n,lt,'0)]",
+                "nodes 2 /q/a 1 1 0 {n=5,t='x} /q/b 2 1 0 {n=11}",
+            ),
+            (
+                "/q/[field(n,ne,5)]",
+                "nodes 2 /q/:a 1 1 0 {n='5} /q/b 2 1 0 {n=11}",
+            ),
+            (
+                "/q/[not(field(n,eq,5))]",
+                "nodes 3 /q/:a 1 1 0 {n='5} /q/ab 1 1 0 - /q/b 2 1 0 {n=11}",
+            ),
+            ("/q/[field(t,eq,'x)]", "nodes 1 /q/a 1 1 0 {n=5,t='x}"),
+            ("/q/[is({n=11})]", "nodes 1 /q/b 2 1 0 {n=11}"),
+            ("/q/[is({})]", "nodes 0"),
+            (
+                "/q/[payload]",
+                "nodes 3 /q/:a 1 1 0 {n='5} /q/a 1 1 0 {n=5,t='x} /q/b 2 1 0 {n=11}",
+            ),
+            ("/q/[pv(eq,2)]", "nodes 1 /q/b 2 1 0 {n=11}"),
+            (
+                "/[cv(ge,4)]/*",
+                "nodes 4 /q/:a 1 1 0 {n='5} /q/a 1 1 0 {n=5,t='x} /q/ab 1 1 0 - /q/b 2 1 0 {n=11}",
+            ),
+            ("/[cv(gt,4)]/*", "nodes 0"),
+            ("/[kids(eq,4)]", "nodes 1 /q 1 4 4 -"),
+            (
+                "/[all(kids(ge,4),not(payload))]/[any(pv(gt,1),name(:a))]",
+                "nodes 2 /q/:a 1 1 0 {n='5} /q/b 2 1 0 {n=11}",
+            ),
+            ("/**/[sproc]", "nodes 0"),
+            ("/q/[all(exists,not(data))]", "nodes 1 /q/ab 1 1 0 -"),
+        ],
+    ),
+    (
+        "@1 put /x/y/x/y/z -\n\
+         @1 put /x/abab {}\n\
+         @1 put /x/aXbYb -\n\
+         @1 put /x/%2A {}\n",
+        &[
+            ("/**/y", "nodes 2 /x/y 1 1 1 - /x/y/x/y 1 1 1 -"),
+            ("/**/x/**", "nodes 2 /x/y/x/y 1 1 1 - /x/y/x/y/z 1 1 0 -"),
+            ("/x/**/z", "nodes 1 /x/y/x/y/z 1 1 0 -"),
+            ("/x/*/z", "nodes 0"),
+            ("/*/y/*/y", "nodes 1 /x/y/x/y 1 1 1 -"),
+            (
+                "/x/[name(a*b)]",
+                "nodes 2 /x/aXbYb 1 1 0 - /x/abab 1 1 0 {}",
+            ),
+            ("/x/[name(*ab)]", "nodes 1 /x/abab 1 1 0 {}"),
+            (
+                "/x/[name(a*b*b)]",
+                "nodes 2 /x/aXbYb 1 1 0 - /x/abab 1 1 0 {}",
+            ),
+            ("/x/[name(a*bYb)]", "nodes 1 /x/aXbYb 1 1 0 -"),
+            ("/x/[name(ab*ab*)]", "nodes 1 /x/abab 1 1 0 {}"),
+            ("/x/[name(ab*ab*ab)]", "nodes 0"),
+            ("/x/%2A", "nodes 1 /x/%2A 1 1 0 {}"),
+            ("/x/[name(%2A)]", "nodes 1 /x/%2A 1 1 0 {}"),
+            (
+                "/x/[name(*)]",
+                "nodes 4 /x/%2A 1 1 0 {} /x/aXbYb 1 1 0 - /x/abab 1 1 0 {} /x/y 1 1 1 -",
+            ),
+            (
+                "/**/[kids(eq,1)]/**",
+                "nodes 3 /x/y/x 1 1 1 - /x/y/x/y 1 1 1 - /x/y/x/y/z 1 1 0 -",
+            ),
+            ("/[kids(eq,1)]", "nodes 0"),
+            (
+                "/x/[not(not(data))]",
+                "nodes 2 /x/%2A 1 1 0 {} /x/abab 1 1 0 {}",
+            ),
+            ("/x/y/**/y/**", "nodes 1 /x/y/x/y/z 1 1 0 -"),
+        ],
+    ),
+];
+
+// What is no pattern.
+const NO_PATTERNS: [&str; 13] = [
+    "/a/",
+    "/***",
+    "/a*",
+    "/[]",
+    "/[absent",
+    "a",
+    "//a",
+    "/[not()]",
+    "/[pv(eq,01)]",
+    "/[name()]",
+    "/[name(:)]",
+    "/[name(?)]",
+    "/a/a/a/a/a/a/a/a/a/a/a/a/a/a/a/a/a/a/a/a/a/a/a/a/a/a/a/a/a/a/a/a/a",
+];
+
+// What is written for these lines, the first line of all aside.
+fn session_of(alloc: Global, input: Vec<u8>) -> Result<Vec<u8>, AllocError> {
+    let words = words(alloc, &["session"])?;
+    let mut source = MemSource::new(input, Vec::new(alloc));
+    let mut sink = sink(alloc, Vec::new(alloc));
+    let status = run(alloc, words.as_slice(), &mut source, &mut sink);
+    let written = sink.bytes();
+    if status != Status::Ended || written.len() < 12 {
+        return Ok(Vec::new(alloc));
+    }
+    Vec::from_slice(alloc, &written[12..])
+}
+
+#[test]
+fn patterns_match(rt: HostRuntime) -> Result<(), Fail> {
+    let alloc = rt.alloc();
+    for (puts, rows) in PATTERNS {
+        let mut input = Vec::from_slice(alloc, puts.as_bytes())?;
+        let mut output = Vec::new(alloc);
+        let mut line = count_ends(input.as_slice());
+        for (pattern, reply) in rows {
+            line = line.saturating_add(1);
+            let asked = format!(in alloc; "@1 many {pattern} 256\n")?;
+            let answered = format!(in alloc;
+                "# {line} @{line} many {pattern} 256\n= {line} {line} {reply}\n"
+            )?;
+            input.extend_from_slice(asked.as_bytes())?;
+            output.extend_from_slice(answered.as_bytes())?;
+        }
+        let written = session_of(alloc, input)?;
+        assert!(rt; written.as_slice().ends_with(output.as_slice()), "{puts}");
+    }
+    for pattern in NO_PATTERNS {
+        let asked = format!(in alloc; "@1 count {pattern}\n")?;
+        let written = session_of(alloc, Vec::from_slice(alloc, asked.as_bytes())?)?;
+        assert_eq!(rt;
+            written.as_slice(),
+            b"- 1 badline\n".as_slice(),
+            "{pattern}"
+        );
+    }
+    Ok(())
+}
 
 #[test]
 fn lines_are_answered(rt: HostRuntime) -> Result<(), Fail> {

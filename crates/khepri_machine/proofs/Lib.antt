@@ -1,9 +1,5 @@
-pub mod Slots
-pub mod Kids
-pub mod Trees
-pub mod Steps
-pub mod Lengths
-pub mod Ways
-pub mod Subtrees
-pub mod Losses
-pub mod Cuts
+pub mod Seeing
+pub mod Sparing
+pub mod Writing
+pub mod Masking
+pub mod Gathering

@@ -1,13 +1,14 @@
-//! The machine that the log drives. It keeps the tree as a vector of paths and nodes in order of path, applies one entry at a time,
-//! and answers exactly what the definitions of `khepri_types` say. It may know of paths, payloads, commands, entries and replies; it
-//! knows nothing of lines, of streams, or of who asked.
+//! The machine that the log drives. It applies one entry at a time to a tree and answers exactly what the definitions of
+//! `khepri_types` say. Each command is first worked out over the tree as it stands, in a draft where it changes something, and only
+//! what keeps every rule becomes the tree. It may know of commands, entries and replies; it knows nothing of lines, of streams, of how
+//! a tree is kept, or of who asked.
 #![tactic(auto)]
 
-mod cut;
-mod grow;
+mod finish;
 mod machine;
-mod nodes;
-mod sizes;
-mod store;
+mod outcome;
+mod refusal;
+mod scan;
+mod shown;
 
 pub use machine::KhepriMachine;

@@ -1,202 +1,347 @@
 // The machine.
-ghost use Rattle.std.specs.Prelude.{◌≡◌, ◌<◌, ◌≤◌, ◌+◌, ◌^◌, if◌then◌else◌, length, IfOk};
+ghost use Rattle.std.specs.Prelude.{◌≡◌, ◌<◌, ◌≤◌, ◌+◌, ◌^◌, [], false, IsTrue, IfOk, length};
 ghost use Rattle.khepri_types.specs.declared.command.Command.TheVariants as command;
 ghost use Rattle.khepri_types.specs.declared.limits.TheConstants.{MAX_PATH_NAMES};
-ghost use Rattle.khepri_types.specs.declared.reply.Reply.TheVariants.{NoExists, NoAbsent};
+ghost use Rattle.khepri_types.specs.Exec.{exec, exec_command, opening_state, write, dropped};
+ghost use Rattle.khepri_types.specs.Conditions.{holds_at};
+ghost use Rattle.khepri_types.specs.Paths.{is_under};
 ghost use Rattle.khepri_types.specs.Tree.{stands};
-ghost use Rattle.khepri_types.specs.Exec.{exec, exec_command, opening_state, write, delete, refused};
+ghost use Rattle.khepri_machine.specs.Outcomes.{ended};
 
-use crate::nodes::fresh_node;
-use crate::store::Store;
+use crate::finish::{give_watches, settled, wrote};
+use crate::outcome::Outcome;
+use crate::refusal::unwritable;
+use crate::scan::{find, matching};
+use crate::shown::shown;
 use khepri_terms::Path;
-use khepri_types::limits::MAX_PATH_NAMES;
-use khepri_types::{Command, Entry, Payload, Reply};
+use khepri_types::{Command, Condition, Entry, Pattern, Payload, Reply, ShownNodes, Watching};
 use std::alloc::{AllocError, Global};
-use std::marker::Model;
+use std::marker::{Brand, Model};
+use std::sync::ledger::{Blank, Ledger};
+use step_count::Steps;
+use tree_nodes::Tree;
 
 /// A tree and how many entries made it. It starts from the root alone, and two machines that were given the same entries stand for
 /// the same state. A call that answers `AllocError` may leave an entry half applied: the machine may then only be dropped.
 #[derive(Drop)]
 pub struct KhepriMachine {
-    store: Store,
+    alloc: Global,
+    tree: Tree,
     position: u64,
 }
 
 impl Model for KhepriMachine {
-    ghost use Rattle.khepri_machine.specs.Machine.{Kept, IsKept};
+    ghost use Rattle.std.specs.Coded.{codes};
+    ghost use Rattle.std.specs.FinMap.{code};
+    ghost use Rattle.khepri_types.specs.contracts.condition.Condition as condition;
+    ghost use Rattle.khepri_types.specs.Exec.{State};
 
-    ghost Value = { Kept };
+    ghost Value = { State };
 
-    ghost view = { λ m. record { nodes = m.store.nodes.items; position = m.position } };
+    ghost coded = { Prim.hlevel (code, codes, condition.the_row.coded) };
 
-    ghost invariant = { λ m. IsKept m.store.nodes.items m.store.kids.items m.store.bytes };
+    ghost view = { λ m. record { tree = m.tree; position = m.position } };
 }
 
 impl KhepriMachine {
-    ghost use Rattle.khepri_machine.specs.Machine.{state_of};
-
     pub fn fresh(alloc: Global) -> Result<KhepriMachine, AllocError>
-        ensures { IfOk result (λ m. state_of m ≡ opening_state) }
+        ensures { IfOk result (λ m. m ≡ opening_state) }
     {
-        let mut nodes = Vec::new(alloc);
-        nodes.push((Path::root(alloc), fresh_node(Payload::Empty)))?;
-        let mut kids = Vec::new(alloc);
-        kids.push(0)?;
         Ok(KhepriMachine {
-            store: Store {
-                nodes,
-                kids,
-                bytes: 1,
-            },
+            alloc,
+            tree: Tree::fresh(alloc)?,
             position: 0,
         })
     }
 
     /// How many entries were applied.
     pub fn position(&self) -> u64
-        ensures { result ≡ (state_of self.now).position }
+        ensures { result ≡ self.now.position }
     {
         self.position
     }
 
-    /// Applies an entry and answers its command. A put or create takes a few searches for each missing name of its path, a get, update
-    /// or clear one; what comes or goes may move all nodes that stand after it.
-    pub fn exec(&mut self, entry: &Entry) -> Result<Reply, AllocError>
-        requires room { (state_of self.old).position < 2 ^ 40 }
-        ensures { IfOk result (λ reply. exec (state_of self.old) entry.now ≡ (reply, state_of self.new)) }
+    /// Applies an entry and answers its command.
+    pub fn exec<L: Ledger>(
+        &mut self,
+        entry: &Entry,
+        steps: &mut Steps<L>,
+    ) -> Result<Reply, AllocError>
+        requires room { self.old.position < 2 ^ 40 }
+        ensures { IfOk result (λ reply. exec self.old entry.now ≡ (reply, self.new)) }
     {
         match entry {
             Entry::Command {
                 conn: _,
                 line: _,
                 cmd,
-            } => self.exec_command(cmd),
+            } => {
+                let outcome = self.outcome(cmd, steps)?;
+                self.apply(outcome, steps)
+            }
         }
     }
 
-    fn exec_command(&mut self, cmd: &Command) -> Result<Reply, AllocError>
-        requires room { (state_of self.old).position < 2 ^ 40 }
-        ensures { IfOk result (λ reply. exec_command (state_of self.old) cmd.now ≡ (reply, state_of self.new)) }
+    /// Applies an entry and answers its command; the steps are not counted.
+    pub fn exec_uncounted(&mut self, entry: &Entry) -> Result<Reply, AllocError>
+        requires room { self.old.position < 2 ^ 40 }
+        ensures { IfOk result (λ reply. exec self.old entry.now ≡ (reply, self.new)) }
+    {
+        exec_from::<Brand>(self, entry, Blank::new(1))
+    }
+
+    // What an entry comes to becomes the next state.
+    fn apply<L: Ledger>(
+        &mut self,
+        outcome: Outcome,
+        steps: &mut Steps<L>,
+    ) -> Result<Reply, AllocError>
+        requires room { self.old.position < 2 ^ 40 }
+        ensures { IfOk result (λ reply. ended self.old outcome ≡ (reply, self.new)) }
+    {
+        match outcome {
+            Outcome::Same(reply) => {
+                self.position += 1;
+                Ok(reply)
+            }
+            Outcome::Changed(reply, changes) => {
+                self.tree.absorb(changes, steps)?;
+                self.position += 1;
+                Ok(reply)
+            }
+        }
+    }
+
+    // What a command comes to.
+    fn outcome<L: Ledger>(&self, cmd: &Command, steps: &mut Steps<L>) -> Result<Outcome, AllocError>
+        ensures { IfOk result (λ o. exec_command self.now cmd.now ≡ ended self.now o) }
     {
         match cmd {
-            Command::Put { path, payload } => self.put(path, payload),
-            Command::Create { path, payload } => self.create(path, payload),
-            Command::Update { path, payload } => self.update(path, payload),
-            Command::Clear { path } => self.exchange(path, &Payload::Empty),
-            Command::Del { path } => self.del(path),
-            Command::Get { path } => self.get(path),
+            Command::Put {
+                path,
+                payload,
+                watch,
+            } => self.put(path, payload, watch, steps),
+            Command::Create {
+                path,
+                payload,
+                watch,
+            } => self.create(path, payload, watch, steps),
+            Command::Update {
+                path,
+                payload,
+                watch,
+            } => self.update(path, payload, watch, steps),
+            Command::Cas {
+                path,
+                cond,
+                payload,
+                watch,
+            } => self.cas(path, cond, payload, watch, steps),
+            Command::Clear { path } => self.clear(path, steps),
+            Command::Del { path } => self.del(path, steps),
+            Command::Delmany { pattern } => self.delmany(pattern, steps),
+            Command::Get { path } => self.get(path, steps),
+            Command::Many { pattern, limit } => self.many(pattern, *limit, steps),
+            Command::Count { pattern } => self.count(pattern, steps),
         }
     }
 
-    fn put(&mut self, path: &Path, payload: &Payload) -> Result<Reply, AllocError>
-        requires room { (state_of self.old).position < 2 ^ 40 }
-        ensures { IfOk result (λ reply. exec_command (state_of self.old) (command.Put path.now payload.now) ≡ (reply, state_of self.new)) }
+    fn put<L: Ledger>(
+        &self,
+        path: &Path,
+        payload: &Payload,
+        watch: &Watching,
+        steps: &mut Steps<L>,
+    ) -> Result<Outcome, AllocError>
+        ensures { IfOk result (λ o. exec_command self.now (command.Put path.now payload.now watch.now) ≡ ended self.now o) }
     {
-        if path.len() > MAX_PATH_NAMES {
-            return Ok(self.refuse(Reply::NoDeep));
+        if let Some(reply) = unwritable(path, watch) {
+            return Ok(Outcome::Same(reply));
         }
-        self.write(path, payload)
+        self.write(path, payload, watch, steps)
     }
 
-    fn create(&mut self, path: &Path, payload: &Payload) -> Result<Reply, AllocError>
-        requires room { (state_of self.old).position < 2 ^ 40 }
-        ensures { IfOk result (λ reply. exec_command (state_of self.old) (command.Create path.now payload.now) ≡ (reply, state_of self.new)) }
+    fn create<L: Ledger>(
+        &self,
+        path: &Path,
+        payload: &Payload,
+        watch: &Watching,
+        steps: &mut Steps<L>,
+    ) -> Result<Outcome, AllocError>
+        ensures { IfOk result (λ o. exec_command self.now (command.Create path.now payload.now watch.now) ≡ ended self.now o) }
     {
-        if path.len() > MAX_PATH_NAMES {
-            return Ok(self.refuse(Reply::NoDeep));
+        if let Some(reply) = unwritable(path, watch) {
+            return Ok(Outcome::Same(reply));
         }
-        self.make(path, payload)
+        if self.stands(path, steps) {
+            return Ok(Outcome::Same(Reply::NoExists));
+        }
+        self.write(path, payload, watch, steps)
     }
 
-    fn update(&mut self, path: &Path, payload: &Payload) -> Result<Reply, AllocError>
-        requires room { (state_of self.old).position < 2 ^ 40 }
-        ensures { IfOk result (λ reply. exec_command (state_of self.old) (command.Update path.now payload.now) ≡ (reply, state_of self.new)) }
+    fn update<L: Ledger>(
+        &self,
+        path: &Path,
+        payload: &Payload,
+        watch: &Watching,
+        steps: &mut Steps<L>,
+    ) -> Result<Outcome, AllocError>
+        ensures { IfOk result (λ o. exec_command self.now (command.Update path.now payload.now watch.now) ≡ ended self.now o) }
     {
-        if path.len() > MAX_PATH_NAMES {
-            return Ok(self.refuse(Reply::NoDeep));
+        if let Some(reply) = unwritable(path, watch) {
+            return Ok(Outcome::Same(reply));
         }
-        self.exchange(path, payload)
+        if !self.stands(path, steps) {
+            return Ok(Outcome::Same(Reply::NoAbsent));
+        }
+        self.write(path, payload, watch, steps)
     }
 
-    fn del(&mut self, path: &Path) -> Result<Reply, AllocError>
-        requires room { (state_of self.old).position < 2 ^ 40 }
-        ensures { IfOk result (λ reply. exec_command (state_of self.old) (command.Del path.now) ≡ (reply, state_of self.new)) }
+    fn cas<L: Ledger>(
+        &self,
+        path: &Path,
+        cond: &Condition,
+        payload: &Payload,
+        watch: &Watching,
+        steps: &mut Steps<L>,
+    ) -> Result<Outcome, AllocError>
+        ensures { IfOk result (λ o. exec_command self.now (command.Cas path.now cond.now payload.now watch.now) ≡ ended self.now o) }
+    {
+        if let Some(reply) = unwritable(path, watch) {
+            return Ok(Outcome::Same(reply));
+        }
+        if !self.meets(path, cond, steps) {
+            return Ok(Outcome::Same(Reply::NoMismatch));
+        }
+        self.write(path, payload, watch, steps)
+    }
+
+    fn clear<L: Ledger>(&self, path: &Path, steps: &mut Steps<L>) -> Result<Outcome, AllocError>
+        ensures { IfOk result (λ o. exec_command self.now (command.Clear path.now) ≡ ended self.now o) }
+    {
+        if !self.stands(path, steps) {
+            return Ok(Outcome::Same(Reply::NoAbsent));
+        }
+        self.write(path, &Payload::Empty, &Watching::Stay, steps)
+    }
+
+    fn del<L: Ledger>(&self, path: &Path, steps: &mut Steps<L>) -> Result<Outcome, AllocError>
+        ensures { IfOk result (λ o. exec_command self.now (command.Del path.now) ≡ ended self.now o) }
     {
         if path.len() == 0 {
-            return Ok(self.refuse(Reply::NoRoot));
+            return Ok(Outcome::Same(Reply::NoRoot));
         }
-        Ok(self.remove(path))
+        let paths = vec![in self.alloc; path.copy()?]?;
+        self.dropped(paths.as_slice(), steps)
     }
 
-    fn get(&mut self, path: &Path) -> Result<Reply, AllocError>
-        requires room { (state_of self.old).position < 2 ^ 40 }
-        ensures { IfOk result (λ reply. exec_command (state_of self.old) (command.Get path.now) ≡ (reply, state_of self.new)) }
+    fn delmany<L: Ledger>(
+        &self,
+        pattern: &Pattern,
+        steps: &mut Steps<L>,
+    ) -> Result<Outcome, AllocError>
+        ensures { IfOk result (λ o. exec_command self.now (command.Delmany pattern.now) ≡ ended self.now o) }
     {
-        let reply = self.store.show(path)?;
-        self.count_entry();
-        Ok(reply)
+        if pattern.parts().len() == 0 {
+            return Ok(Outcome::Same(Reply::NoRoot));
+        }
+        let paths = matching(self.alloc, &self.tree, pattern, steps)?;
+        self.dropped(paths.as_slice(), steps)
     }
 
-    // Sets the payload where the path stands.
-    fn exchange(&mut self, path: &Path, payload: &Payload) -> Result<Reply, AllocError>
-        requires room { (state_of self.old).position < 2 ^ 40 }
-        ensures { IfOk result (λ reply. (if stands (state_of self.old).tree path.now then write (state_of self.old) path.now payload.now else refused (state_of self.old) NoAbsent) ≡ (reply, state_of self.new)) }
+    fn get<L: Ledger>(&self, path: &Path, steps: &mut Steps<L>) -> Result<Outcome, AllocError>
+        ensures { IfOk result (λ o. exec_command self.now (command.Get path.now) ≡ ended self.now o) }
     {
-        let reply = self.store.exchange(path, payload)?;
-        self.count_entry();
-        Ok(reply)
+        Ok(Outcome::Same(shown(&self.tree, path, steps)?))
     }
 
-    // Sets the payload, where no earlier rule refuses the command.
-    fn write(&mut self, path: &Path, payload: &Payload) -> Result<Reply, AllocError>
-        requires room { (state_of self.old).position < 2 ^ 40 }
+    fn many<L: Ledger>(
+        &self,
+        pattern: &Pattern,
+        limit: u64,
+        steps: &mut Steps<L>,
+    ) -> Result<Outcome, AllocError>
+        ensures { IfOk result (λ o. exec_command self.now (command.Many pattern.now limit) ≡ ended self.now o) }
+    {
+        let found = find(self.alloc, &self.tree, pattern, limit, steps)?;
+        Ok(Outcome::Same(Reply::Nodes {
+            count: found.count,
+            nodes: ShownNodes::from_vec(found.nodes),
+        }))
+    }
+
+    fn count<L: Ledger>(
+        &self,
+        pattern: &Pattern,
+        steps: &mut Steps<L>,
+    ) -> Result<Outcome, AllocError>
+        ensures { IfOk result (λ o. exec_command self.now (command.Count pattern.now) ≡ ended self.now o) }
+    {
+        let found = find(self.alloc, &self.tree, pattern, 0, steps)?;
+        Ok(Outcome::Same(Reply::Count { count: found.count }))
+    }
+
+    // Whether a node stands at the path.
+    #[tactic(auto, using(crate::proofs::Seeing::view_stands))]
+    fn stands<L: Ledger>(&self, path: &Path, steps: &mut Steps<L>) -> bool
+        ensures value { result ≡ stands self.now.tree path.now }
+        ensures short { IsTrue result → length path.now ≤ MAX_PATH_NAMES }
+    {
+        let _nodes = self.tree.nodes();
+        self.tree.node(path, steps).is_some()
+    }
+
+    // Whether the condition holds at the path.
+    fn meets<L: Ledger>(&self, path: &Path, cond: &Condition, steps: &mut Steps<L>) -> bool
+        ensures { result ≡ holds_at cond.now self.now.tree path.now }
+    {
+        let seen = self.tree.node(path, steps);
+        cond.holds(seen.as_ref())
+    }
+
+    // The payload is set at the path, and then the watches of its node.
+    fn write<L: Ledger>(
+        &self,
+        path: &Path,
+        payload: &Payload,
+        watch: &Watching,
+        steps: &mut Steps<L>,
+    ) -> Result<Outcome, AllocError>
         requires short { length path.now ≤ MAX_PATH_NAMES }
-        ensures { IfOk result (λ reply. write (state_of self.old) path.now payload.now ≡ (reply, state_of self.new)) }
+        ensures { IfOk result (λ o. write self.now path.now payload.now watch.now ≡ ended self.now o) }
     {
-        let reply = self.store.write(path, payload)?;
-        self.count_entry();
-        Ok(reply)
+        let mut draft = self.tree.draft()?;
+        let version = draft.set(path, payload, steps)?;
+        give_watches(&mut draft, path, watch)?;
+        wrote(draft, path, version, steps)
     }
 
-    // Sets the payload where no node stands at the path.
-    fn make(&mut self, path: &Path, payload: &Payload) -> Result<Reply, AllocError>
-        requires room { (state_of self.old).position < 2 ^ 40 }
-        requires short { length path.now ≤ MAX_PATH_NAMES }
-        ensures { IfOk result (λ reply. (if stands (state_of self.old).tree path.now then refused (state_of self.old) NoExists else write (state_of self.old) path.now payload.now) ≡ (reply, state_of self.new)) }
+    // The nodes at the paths and all below them are dropped.
+    fn dropped<L: Ledger>(
+        &self,
+        paths: &[Path],
+        steps: &mut Steps<L>,
+    ) -> Result<Outcome, AllocError>
+        requires below { is_under paths.now [] ≡ false }
+        ensures { IfOk result (λ o. dropped self.now paths.now ≡ ended self.now o) }
     {
-        let reply = self.store.create(path, payload)?;
-        self.count_entry();
-        Ok(reply)
+        let mut draft = self.tree.draft()?;
+        let count = draft.drop_all(paths, steps)?;
+        settled(draft, count, steps)
     }
+}
 
-    // Drops the node at the path, which isn't the root, and all below it.
-    fn remove(&mut self, path: &Path) -> Reply
-        requires room { (state_of self.old).position < 2 ^ 40 }
-        requires below { 0 < length path.now }
-        ensures { delete (state_of self.old) path.now ≡ (result, state_of self.new) }
-    {
-        let count = self.store.remove(path);
-        self.count_entry();
-        Reply::Changed { count, gone: 0 }
-    }
-
-    // A refused entry has its place in the history, and changes nothing else.
-    fn refuse(&mut self, reply: Reply) -> Reply
-        requires { self.old.position < 2 ^ 40 }
-        ensures reply { result ≡ reply }
-        ensures nodes { self.new.nodes ≡ self.old.nodes }
-        ensures position { self.new.position ≡ self.old.position + 1 }
-    {
-        self.count_entry();
-        reply
-    }
-
-    // One more entry was applied.
-    fn count_entry(&mut self)
-        requires { self.old.position < 2 ^ 40 }
-        ensures nodes { self.new.nodes ≡ self.old.nodes }
-        ensures position { self.new.position ≡ self.old.position + 1 }
-    {
-        self.position += 1;
-    }
+// Applies an entry and counts its steps from none.
+fn exec_from<L: Ledger>(
+    machine: &mut KhepriMachine,
+    entry: &Entry,
+    blank: Blank,
+) -> Result<Reply, AllocError>
+    requires blank { (blank.name ≡ L.name) × (blank.parts ≡ L.parts) × (0 < L.parts) }
+    requires room { machine.old.position < 2 ^ 40 }
+    ensures { IfOk result (λ reply. exec machine.old entry.now ≡ (reply, machine.new)) }
+{
+    let mut steps = Steps::<L>::open(blank);
+    machine.exec(entry, &mut steps)
 }

@@ -19,6 +19,7 @@ use Rattle.khepri_types.proofs.Outputs.{All-append, All-weaker, NamesBelow, Name
 use Rattle.khepri_types.proofs.After.{position-after}
 use Rattle.khepri_types.proofs.Spelling.{line_at-takes}
 use Rattle.khepri_types.proofs.Payloads.{AllSpelled, spelled-after}
+use Rattle.khepri_types.proofs.PathsWritten.{AllWritten, written-after}
 use Rattle.khepri_types.proofs.Answering.{answer-is, answers-more, answers-none}
 
 -- these lines were written before line l is answered at state S, and these input lines are left
@@ -30,6 +31,7 @@ pub record Amid (input : List (List ℕ)) (before : List OutLine) (l : ℕ) (S :
   pub position : S.position ≡ length (history before)
   pub few : S.position < l
   pub payloads : AllSpelled S.tree
+  pub paths : AllWritten S.tree
   pub early : AllByRecursion (NamesBelow l) before
 
 abbrev pub entry_line : ℕ → State → Command → OutLine
@@ -68,6 +70,7 @@ amid-refused input before l S bytes rest r a =
       position = a.position ∙ ap length (sym same);
       few = omega (arith, a.few);
       payloads = a.payloads;
+      paths = a.paths;
       early = names_more l before (out.Refused l r) a.early refl;
     }
 
@@ -88,6 +91,7 @@ amid-entered input before l S bytes rest c is a =
       position = omega (arith, position-after S c, a.position, ap length told, length-append (history before) (text.Command c ∷ []));
       few = omega (arith, position-after S c, a.few);
       payloads = spelled-after S c is a.payloads;
+      paths = written-after S c is a.paths;
       early = All-append (NamesBelow (l + 1)) one (reply_line l S c ∷ []) first (omega arith, tt);
     }
 

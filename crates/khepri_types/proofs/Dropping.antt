@@ -24,10 +24,10 @@ Entry = List NameText × Node
 
 -- ---- other nodes at the same paths
 
-abbrev mapped : (List NameText → Node → Node) → List Entry → List Entry
+abbrev pub mapped : (List NameText → Node → Node) → List Entry → List Entry
 mapped f es = map (λ e. (e.0, f e.0 e.1)) es
 
-find-mapped : (f : List NameText → Node → Node) (q : List NameText) (es : List Entry) → find path_cmp q (mapped f es) ≡ option_map (f q) (find path_cmp q es)
+pub find-mapped : (f : List NameText → Node → Node) (q : List NameText) (es : List Entry) → find path_cmp q (mapped f es) ≡ option_map (f q) (find path_cmp q es)
 find-mapped f q [] = refl
 find-mapped f q (e ∷ es) = elim (eq_by_cmp path_cmp q e.0) as (λ b. eq_by_cmp path_cmp q e.0 ≡ b → cond b (Some (f e.0 e.1)) (find path_cmp q (mapped f es)) ≡ option_map (f q) (cond b (Some e.1) (find path_cmp q es))) [
   | true ↦ λ t. ap (λ (k : List NameText). Some (f k e.1)) (sym (path_cmp-same q e.0 (tie_is _ t)))
@@ -113,12 +113,16 @@ stood-drop T paths q h = elim (get (drop T paths) q) as (λ o. get (drop T paths
 same_bytes : (nodes : List Entry) (paths : List (List NameText)) (q : List NameText) (n : Node) → node_bytes (q, left_node nodes paths q n) ≡ node_bytes (q, n)
 same_bytes nodes paths q n = elim (loses_child nodes paths q) as (λ b. node_bytes (q, cond b (raised_children n) n) ≡ node_bytes (q, n)) [ true ↦ refl | false ↦ refl ]
 
+-- as many nodes are left as there are entries below no dropped path
+pub len-left : (T : Tree) (paths : List (List NameText)) → len (drop T paths) ≡ length (where_key path_cmp (stays paths) (entries T))
+len-left T paths =
+    let kept = where_key path_cmp (stays paths) (entries T) in
+    len-entries (drop T paths) ∙ (ap length (entries-drop T paths) ∙ length-map kept (λ (e : Entry). (e.0, left_node (entries T) paths e.0 e.1)))
+
 -- a drop leaves no more nodes
 pub len-drop : (T : Tree) (paths : List (List NameText)) → len (drop T paths) ≤ len T
 len-drop T paths =
-    let kept = where_key path_cmp (stays paths) (entries T) in
-    let whole : len (drop T paths) ≡ length kept = len-entries (drop T paths) ∙ (ap length (entries-drop T paths) ∙ length-map kept (λ (e : Entry). (e.0, left_node (entries T) paths e.0 e.1))) in
-    omega (arith, whole, length-filter (λ (e : Entry). stays paths e.0) (entries T), count_by-le-length (λ (e : Entry). stays paths e.0) (entries T), len-entries T)
+    omega (arith, len-left T paths, length-filter (λ (e : Entry). stays paths e.0) (entries T), count_by-le-length (λ (e : Entry). stays paths e.0) (entries T), len-entries T)
 
 -- and no more bytes
 pub bytes-drop : (T : Tree) (paths : List (List NameText)) → bytes (drop T paths) ≤ bytes T

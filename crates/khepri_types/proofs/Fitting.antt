@@ -28,7 +28,7 @@ use Rattle.khepri_types.proofs.After.{fits-after}
 opening_entries : entries opening_tree ≡ ([], fresh Empty) ∷ []
 opening_entries = entries-from_sorted path_cmp (([], fresh Empty) ∷ []) tt
 
-opening_len : len opening_tree ≡ 1
+pub opening_len : len opening_tree ≡ 1
 opening_len = len-entries opening_tree ∙ ap length opening_entries
 
 root_bytes : sum (map node_bytes (([], fresh Empty) ∷ [])) ≡ 1

@@ -1,90 +1,136 @@
 -- A session of one node is legal, rule by rule.
-use Rattle.std.proofs.Common.{◌≡◌, ◌<◌, inl, inr, ℕ, ◌+◌, ◌-◌, ◌≤◌, List, [], ◌∷◌, length, refl, sym, ap, subst, ◌∙◌, arith, Option, Some, None}
-use Rattle.std.specs.Prelude.{IsTrue}
+use Rattle.std.proofs.Common.{◌≡◌, inl, inr, ℕ, ◌+◌, ◌-◌, ◌*◌, ◌≤◌, List, [], ◌∷◌, length, take, refl, sym, ap, subst, ◌∙◌, arith, Option, Some, None}
+use Rattle.std.specs.Prelude.{IsTrue, is_some}
 use Rattle.std.specs.FinMap.{get, len}
 use Rattle.khepri_terms.specs.Terms.{NameText}
-use Rattle.khepri_types.specs.declared.limits.TheConstants.{MAX_NUMBER, MAX_TREE_NODES}
+use Rattle.khepri_types.specs.declared.limits.TheConstants.{MAX_INPUT_BYTES, MAX_TREE_NODES}
 use Rattle.khepri_types.specs.declared.command.Command.{Command}
 use Rattle.khepri_types.specs.declared.node.Node.{Node}
-use Rattle.khepri_types.specs.declared.node.Payload.{Payload}
+use Rattle.khepri_types.specs.declared.pattern.PatternPart.{PatternPart}
 use Rattle.khepri_types.specs.declared.reply.Reply.{Reply}
 use Rattle.khepri_types.specs.declared.reply.Reply.TheVariants as reply
 use Rattle.khepri_types.specs.declared.command.Line.TheVariants as line
 use Rattle.khepri_types.specs.declared.out.EntryText.TheVariants as text
 use Rattle.khepri_types.specs.declared.out.OutLine.{OutLine}
 use Rattle.khepri_types.specs.declared.out.OutLine.TheVariants as out
-use Rattle.khepri_types.specs.Tree.{Tree, set, end_node}
+use Rattle.khepri_types.specs.Tree.{Tree, IsTree}
+use Rattle.khepri_types.specs.Settling.{gone}
+use Rattle.khepri_types.specs.Watching.{set_watched}
 use Rattle.khepri_types.specs.Drop.{drop}
 use Rattle.khepri_types.specs.Sizes.{kids, fits}
-use Rattle.khepri_types.specs.Exec.{State, opening_state, pv_of, shown, exec_command}
-use Rattle.khepri_types.specs.Spelled.{IsNumber, IsReply, HasSpelling}
+use Rattle.khepri_types.specs.Exec.{State, opening_state, shown, shown_node, listed, exec_command}
+use Rattle.khepri_types.specs.Patterns.{matching_nodes, matching}
+use Rattle.khepri_types.specs.Spelled.{IsNumber, IsCommand, IsShownNode, IsReply, HasSpelling}
 use Rattle.khepri_types.specs.Reading.{line_at}
 use Rattle.khepri_types.specs.History.{empty_opening, history, run_from}
 use Rattle.khepri_types.specs.Legal.{read_line, command_in, command_of, named, AtEach, Numbered, Carried, Explained, Answered, Awaited, Lost, Shown, Refused, Once, Rising, OneLeader, Legal}
 use Rattle.khepri_types.specs.Calm.{answers, calm}
-use Rattle.khepri_types.proofs.Trees.{set-at_path}
+use Rattle.khepri_types.proofs.Dropping.{len-drop}
 use Rattle.khepri_types.proofs.After.{IsRefusing, met}
 use Rattle.khepri_types.proofs.Fitting.{fits-history, few_nodes, kids-le}
-use Rattle.khepri_types.proofs.Payloads.{AllSpelled, spelled-opening}
-use Rattle.khepri_types.proofs.Versions.{IsWithin, AllWithin, within-set, within-history}
+use Rattle.khepri_types.proofs.Payloads.{AllSpelled, spelled-opening, spelled-set_watched, unmet-spelled}
+use Rattle.khepri_types.proofs.Matching.{few_matched, All-map, each_matched}
+use Rattle.khepri_types.proofs.PathsWritten.{AllWritten, written-opening}
+use Rattle.khepri_types.proofs.Standing.{tree-opening}
+use Rattle.khepri_types.proofs.Staying.{tree-run}
+use Rattle.khepri_types.proofs.Versions.{IsWithin, AllWithin, end-high, few_made, within-history}
+use Rattle.khepri_types.proofs.Watched.{pv-set_watched}
 use Rattle.khepri_types.proofs.Outputs.{All-at, AtEach-all, entered-before, settled-before, entered-after}
 use Rattle.khepri_types.proofs.Amid.{Amid, entry_line, input-here, number-within, late, IsKept, kept}
 
 -- ---- what a reply holds
 
-few_numbers : (n : ℕ) → n ≤ MAX_TREE_NODES → IsNumber n
+few_numbers : (n : ℕ) → n ≤ MAX_TREE_NODES + 33 → IsNumber n
 few_numbers n le = omega arith
 
 refusing-spelled : (r : Reply) → IsRefusing r → IsReply r
 refusing-spelled (reply.Changed n k) is = absurd is
 refusing-spelled (reply.Node pv cv n x) is = absurd is
+refusing-spelled (reply.Nodes m nodes) is = absurd is
+refusing-spelled (reply.Count m) is = absurd is
+refusing-spelled (reply.NoWhile p) is = absurd is
 refusing-spelled reply.NoRoot is = tt
 refusing-spelled reply.NoDeep is = tt
 refusing-spelled reply.NoExists is = tt
 refusing-spelled reply.NoAbsent is = tt
+refusing-spelled reply.NoMismatch is = tt
 refusing-spelled reply.NoFull is = tt
 
--- a tree that keeps its limits, with low versions and payloads that have spellings
-pub record IsPlain (bound : ℕ) (T : Tree) : Type 0 where
-  pub within : AllWithin bound T
+-- a tree that keeps its limits, with low versions, and payloads and watches that have spellings
+pub record IsPlain (a b : ℕ) (T : Tree) : Type 0 where
+  pub within : AllWithin a b T
   pub fit : IsTrue (fits T)
   pub payloads : AllSpelled T
+  pub paths : AllWritten T
 
-shown-spelled : (bound : ℕ) (T : Tree) (p : List NameText) (o : Option Node) → IsPlain bound T → IsNumber (bound + 1) → get T p ≡ o → IsReply (shown T p o)
-shown-spelled bound T p None plain small e = tt
-shown-spelled bound T p (Some n) plain small e =
-    let w : IsWithin bound n = plain.within p n e in
-    (omega (arith, w.pv_high, small), omega (arith, w.cv_high, small), few_numbers (kids T p) (omega (arith, kids-le T p, few_nodes T plain.fit)), plain.payloads p n e)
+shown-spelled : (a b : ℕ) (T : Tree) (p : List NameText) (o : Option Node) → IsPlain a b T → IsNumber (a + 1) → IsNumber b → get T p ≡ o → IsReply (shown T p o)
+shown-spelled a b T p None plain small low e = tt
+shown-spelled a b T p (Some n) plain small low e =
+    let w : IsWithin a b (len T) n = plain.within.each p n e in
+    (omega (arith, w.pv_high, small), omega (arith, w.cv_high, low), few_numbers (kids T p) (omega (arith, kids-le T p, few_nodes T plain.fit)), (plain.payloads p n e).payload)
 
-set-spelled : (bound : ℕ) (T : Tree) (p : List NameText) (x : Payload) → AllWithin bound T → IsNumber (bound + 1) → IsNumber (pv_of (get (set T p x) p))
-set-spelled bound T p x all small =
-    let is : get (set T p x) p ≡ Some (end_node (get T p) x) = set-at_path T p x in
-    let w : IsWithin (bound + 1) (end_node (get T p) x) = within-set bound T p x all p (end_node (get T p) x) is in
-    let v : pv_of (get (set T p x) p) ≡ (end_node (get T p) x).pv = ap pv_of is in
-    omega (arith, v, w.pv_high, small)
+-- a standing node of such a tree as it is listed
+node-spelled : (a b : ℕ) (T : Tree) → IsPlain a b T → IsNumber (a + 1) → IsNumber b → (e : List NameText × Node) → get T e.0 ≡ Some e.1 → IsShownNode (shown_node T e)
+node-spelled a b T plain small low e at =
+    let w : IsWithin a b (len T) e.1 = plain.within.each e.0 e.1 at in
+    record {
+      path = plain.paths e.0 (ap is_some at);
+      pv = omega (arith, w.pv_high, small);
+      cv = omega (arith, w.cv_high, low);
+      kids = few_numbers (kids T e.0) (omega (arith, kids-le T e.0, few_nodes T plain.fit));
+      payload = (plain.payloads e.0 e.1 at).payload;
+    }
+
+matched-few : (a b : ℕ) (T : Tree) (parts : List PatternPart) → IsPlain a b T → IsNumber (length (matching parts T))
+matched-few a b T parts plain = few_numbers (length (matching parts T)) (omega (arith, few_matched parts T, few_nodes T plain.fit))
+
+listed-spelled : (a b : ℕ) (T : Tree) (parts : List PatternPart) (limit : ℕ) → IsPlain a b T → IsNumber (a + 1) → IsNumber b → IsReply (listed T parts limit)
+listed-spelled a b T parts limit plain small low = (
+  matched-few a b T parts plain,
+  All-map (λ (e : List NameText × Node). IsShownNode (shown_node T e)) IsShownNode (shown_node T) (λ e h. h) (take limit (matching_nodes parts T)) (each_matched (λ (e : List NameText × Node). IsShownNode (shown_node T e)) T parts limit (node-spelled a b T plain small low)),
+)
+
+gone-le : (T : Tree) → gone T ≤ len T
+gone-le T = omega arith
 
 -- what a command answers has a spelling
-pub reply-spelled : (S : State) (c : Command) (bound : ℕ) → IsPlain bound S.tree → IsNumber (bound + 1) → IsReply (exec_command S c).0
-reply-spelled S c bound plain small = met (λ y. IsReply y.0) S c (record {
+pub reply-spelled : (S : State) (c : Command) (a b : ℕ) → IsCommand c → IsTree S.tree → IsPlain a b S.tree → IsNumber (a + 1) → IsNumber b → IsReply (exec_command S c).0
+reply-spelled S c a b is tree plain small low = met (λ y. IsReply y.0) S c (record {
   refuses = refusing-spelled;
-  shows = λ p. shown-spelled bound S.tree p (get S.tree p) plain small refl;
-  sets = λ p x may fit. (set-spelled bound S.tree p x plain.within small, omega arith);
-  drops = λ n p fit. (few_numbers (len S.tree - len (drop S.tree ((n ∷ p) ∷ []))) (omega (arith, few_nodes S.tree plain.fit)), omega arith);
+  breaks = λ p x w u may e. (unmet-spelled (set_watched S.tree p x w) p u (spelled-set_watched S.tree p x w (may is).1 (may is).2 plain.payloads) e).target;
+  shows = λ p. shown-spelled a b S.tree p (get S.tree p) plain small low refl;
+  lists = λ parts limit. listed-spelled a b S.tree parts limit plain small low;
+  counts = λ parts. matched-few a b S.tree parts plain;
+  sets = λ p x w may place fit.
+      let U = set_watched S.tree p x w in (
+        omega (arith, pv-set_watched S.tree p x w, end-high a b S.tree p x plain.within, small),
+        few_numbers (gone U) (omega (arith, gone-le U, few_made S p x w tree place, few_nodes S.tree plain.fit)),
+      );
+  drops = λ paths apart fit.
+      let U = drop S.tree paths in (
+        few_numbers (len S.tree - len U) (omega (arith, few_nodes S.tree plain.fit)),
+        few_numbers (gone U) (omega (arith, gone-le U, len-drop S.tree paths, few_nodes S.tree plain.fit)),
+      );
 })
 
-tree_plain : (input : List (List ℕ)) (before : List OutLine) (l : ℕ) (S : State) (rest : List (List ℕ)) → Amid input before l S rest → IsPlain (1 + S.position) S.tree
+tree_plain : (input : List (List ℕ)) (before : List OutLine) (l : ℕ) (S : State) (rest : List (List ℕ)) → Amid input before l S rest → IsPlain (1 + S.position) (2 + 34 * S.position) S.tree
 tree_plain input before l S rest a =
-    let by : AllWithin (1 + length (history before)) (run_from opening_state (history before)).tree = within-history (history before) in
-    let at : AllWithin (1 + length (history before)) S.tree = subst (λ (U : State). AllWithin (1 + length (history before)) U.tree) a.state by in
+    let n : ℕ = length (history before) in
+    let by : AllWithin (1 + length (history before)) (2 + 34 * length (history before)) (run_from opening_state (history before)).tree = within-history (history before) in
+    let at : AllWithin (1 + length (history before)) (2 + 34 * length (history before)) S.tree = subst (λ (U : State). AllWithin (1 + length (history before)) (2 + 34 * length (history before)) U.tree) a.state by in
     record {
-      within = subst (λ (n : ℕ). AllWithin (1 + n) S.tree) (sym a.position) at;
+      within = subst (λ (k : ℕ). AllWithin (1 + k) (2 + 34 * k) S.tree) (sym a.position) at;
       fit = subst (λ (U : State). IsTrue (fits U.tree)) a.state (fits-history (history before));
       payloads = a.payloads;
+      paths = a.paths;
     }
+
+tree_is : (input : List (List ℕ)) (before : List OutLine) (l : ℕ) (S : State) (rest : List (List ℕ)) → Amid input before l S rest → IsTree S.tree
+tree_is input before l S rest a = subst (λ (U : State). IsTree U.tree) a.state (tree-run (history before) opening_state tree-opening)
 
 -- ---- the rules
 
-spelled_kept : (input : List (List ℕ)) → IsNumber (length input + 1) → IsKept input (λ before x after. HasSpelling x)
+spelled_kept : (input : List (List ℕ)) → length input ≤ MAX_INPUT_BYTES + 1 → IsKept input (λ before x after. HasSpelling x)
 spelled_kept input small = record {
   refused = λ before l S bytes rest r at. omega (arith, small, number-within input before l S bytes rest at.amid);
   entry = λ before l S bytes rest k c at.
@@ -96,7 +142,8 @@ spelled_kept input small = record {
       let l_small : IsNumber l = omega (arith, small, within) in
       let n_small : IsNumber (S.position + 1) = omega (arith, l_small, at.amid.few) in
       let v_small : IsNumber ((1 + S.position) + 1) = omega (arith, small, within, at.amid.few) in
-      (l_small, n_small, reply-spelled S c (1 + S.position) (tree_plain input before l S (bytes ∷ rest) at.amid) v_small);
+      let w_small : IsNumber (2 + 34 * S.position) = omega (arith, small, within, at.amid.few) in
+      (l_small, n_small, reply-spelled S c (1 + S.position) (2 + 34 * S.position) at.spelled (tree_is input before l S (bytes ∷ rest) at.amid) (tree_plain input before l S (bytes ∷ rest) at.amid) v_small w_small);
 }
 
 numbered_kept : (input : List (List ℕ)) → IsKept input (Numbered empty_opening)
@@ -171,16 +218,16 @@ unfolding calm
 calm-is input = refl
 
 amid_opening : (input : List (List ℕ)) → Amid input (out.Leads 1 1 ∷ []) 1 opening_state input
-amid_opening input = record { done = []; whole = refl; number = refl; state = refl; position = refl; few = omega arith; payloads = spelled-opening; early = (omega arith, tt) }
+amid_opening input = record { done = []; whole = refl; number = refl; state = refl; position = refl; few = omega arith; payloads = spelled-opening; paths = written-opening; early = (omega arith, tt) }
 
 -- a rule that holds at the first line and is kept holds throughout
 throughout : (input : List (List ℕ)) (R : List OutLine → OutLine → List OutLine → Type 0) → R [] (out.Leads 1 1) (answers 1 opening_state input) → IsKept input R → AtEach R [] (calm input)
 throughout input R first rule = subst (AtEach R []) (sym (calm-is input)) (first, kept input R rule input (out.Leads 1 1 ∷ []) 1 opening_state (amid_opening input))
 
 -- what a session of one node writes is legal
-pub calm-legal : (input : List (List ℕ)) → length input < MAX_NUMBER → Legal empty_opening input (calm input)
+pub calm-legal : (input : List (List ℕ)) → length input ≤ MAX_INPUT_BYTES + 1 → Legal empty_opening input (calm input)
 calm-legal input few = record {
-  spelled = AtEach-all HasSpelling [] (calm input) (throughout input (λ before x after. HasSpelling x) ((omega arith, omega arith), omega arith) (spelled_kept input (omega (arith, few))));
+  spelled = AtEach-all HasSpelling [] (calm input) (throughout input (λ before x after. HasSpelling x) ((omega arith, omega arith), omega arith) (spelled_kept input few));
   numbered = throughout input (Numbered empty_opening) tt (numbered_kept input);
   carried = throughout input (Carried input) tt (carried_kept input);
   explained = throughout input (Explained empty_opening) tt (explained_kept input);

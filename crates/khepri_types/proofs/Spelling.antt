@@ -1,128 +1,46 @@
--- What is read of payloads, commands and lines is spelled so, and what is spelled so is read.
-use Rattle.std.proofs.Common.{◌≡◌, ℕ, ◌+◌, ◌-◌, ◌≤◌, Bool, true, false, cond, eqb, leb, ◌&&◌, List, [], ◌∷◌, ◌++◌, length, take, drop, refl, sym, ap, subst, ◌∙◌, arith, Option, Some, None, codes, decimal}
-use Rattle.std.specs.Cmp.Lexicographic.{same_text}
+-- What is read of commands and lines is spelled so, and what is spelled so is read.
+use Rattle.std.proofs.Common.{◌≡◌, ℕ, ◌+◌, ◌-◌, ◌≤◌, Bool, true, cond, eqb, leb, ◌&&◌, List, [], ◌∷◌, ◌++◌, length, drop, refl, sym, ap, subst, ◌∙◌, arith, Option, Some, None, codes, decimal}
 use Rattle.std.proofs.lemmas.Bool.Decides.{nat_tests}
 use Rattle.std.proofs.lemmas.Bool.{eqb-true, le-leb}
 use Rattle.std.proofs.lemmas.Fmt.{decimal_digit}
-use Rattle.std.proofs.lemmas.List.{take-append-drop, append-nil}
 use Rattle.khepri_terms.specs.Terms.{NameText}
-use Rattle.khepri_terms.specs.declared.rec.Field.{Field}
-use Rattle.khepri_terms.specs.Bytes.{is_plain}
-use Rattle.khepri_terms.specs.Paths.{path_text, path_at, IsPath}
-use Rattle.khepri_terms.specs.Records.{rec_text, rec_at}
+use Rattle.khepri_terms.specs.Paths.{path_text, IsPath}
 use Rattle.khepri_terms.proofs.Cases.{guard_some, some_is, and_true}
-use Rattle.khepri_terms.proofs.PathsLaws.{path_takes, path_again}
-use Rattle.khepri_terms.proofs.RecordsLaws.{rec_takes, rec_again}
 use Rattle.khepri_types.specs.declared.node.Payload.{Payload}
-use Rattle.khepri_types.specs.declared.node.Payload.TheVariants.{Empty, Fields}
 use Rattle.khepri_types.specs.declared.command.Command.{Command}
-use Rattle.khepri_types.specs.declared.command.Command.TheVariants.{Put, Create, Update, Clear, Del, Get}
+use Rattle.khepri_types.specs.declared.command.Command.TheVariants.{Put, Create, Update, Cas, Clear, Del, Delmany, Get, Many, Count}
 use Rattle.khepri_types.specs.declared.command.Line.{Line}
 use Rattle.khepri_types.specs.declared.command.Line.TheVariants as line
-use Rattle.khepri_types.specs.Texts.{payload_text, assigned_text, command_text, line_text}
-use Rattle.khepri_types.specs.Spelled.{IsNode, IsPayload, IsCommand, IsLine}
-use Rattle.khepri_types.specs.Reading.{begins, is_word, whole_record, spelled_payload, whole_path, spelled_path, paired, payload_behind, spelled_pair, assigning, naming, spelled_command, asked, line_at}
-
--- ---- words
-
--- a reading by cases: what follows where the test holds, and what follows from the other case
-pub if_read : {A P : Type 0} (t : Bool) (a b : Option A) (x : A) → cond t a b ≡ Some x → (t ≡ true → a ≡ Some x → P) → (b ≡ Some x → P) → P
-if_read true a b x e held other = held refl e
-if_read false a b x e held other = other e
-
--- a text that begins with a word
-pub word_takes : (word text : List ℕ) → begins word text ≡ true → text ≡ word ++ drop (length word) text
-word_takes word text e = sym (take-append-drop (length word) text) ∙ ap (λ (h : List ℕ). h ++ drop (length word) text) (same_text (take (length word) text) word (sym e))
-
--- ---- paths and payloads
-
-whole_path_is : (o : Option (List NameText × List ℕ)) (p : List NameText) → whole_path o ≡ Some p → o ≡ Some (p, [])
-whole_path_is None p e = absurd cc
-whole_path_is (Some (q, [])) p e = ap (λ (r : List NameText). Some (r, [])) (some_is q p e)
-whole_path_is (Some (q, b ∷ rest)) p e = absurd cc
-
-pub spelled_path-takes : (text : List ℕ) (p : List NameText) → spelled_path text ≡ Some p → (text ≡ path_text p) × IsPath p
-unfolding spelled_path
-spelled_path-takes text p e =
-    let t = path_takes text (p, []) (whole_path_is (path_at text) p e) in
-    (t.0 ∙ append-nil (path_text p), t.1)
-
-pub spelled_path-again : (p : List NameText) → IsPath p → spelled_path (path_text p) ≡ Some p
-unfolding spelled_path
-spelled_path-again p is = ap whole_path (ap path_at (sym (append-nil (path_text p))) ∙ path_again p [] is tt)
-
-whole_record_is : (o : Option (List Field × List ℕ)) (x : Payload) → whole_record o ≡ Some x → (r : List Field) × (o ≡ Some (r, [])) × (Fields r ≡ x)
-whole_record_is None x e = absurd cc
-whole_record_is (Some (r, [])) x e = (r, refl, some_is (Fields r) x e)
-whole_record_is (Some (r, b ∷ rest)) x e = absurd cc
-
-pub spelled_payload-takes : (text : List ℕ) (x : Payload) → spelled_payload text ≡ Some x → (text ≡ payload_text x) × IsPayload x
-unfolding spelled_payload payload_text
-spelled_payload-takes text x e =
-    if_read {P = (text ≡ payload_text x) × IsPayload x} (is_word (codes "-") text) (Some Empty) (whole_record (rec_at text)) x e
-    (λ is h. subst (λ (y : Payload). (text ≡ payload_text y) × IsPayload y) (some_is Empty x h) (same_text text (codes "-") (sym is), tt))
-    (λ h.
-    let r = whole_record_is (rec_at text) x h in
-    let t = rec_takes text (r.0, []) r.1 in
-    subst (λ (y : Payload). (text ≡ payload_text y) × IsPayload y) r.2 (t.0 ∙ append-nil (rec_text r.0), t.1))
-
-no_dash : (r : List Field) → is_word (codes "-") (rec_text r) ≡ false
-unfolding rec_text
-no_dash r = refl
-
-pub spelled_payload-again : (x : Payload) → IsPayload x → spelled_payload (payload_text x) ≡ Some x
-unfolding spelled_payload payload_text
-spelled_payload-again Empty is = refl
-spelled_payload-again (Fields r) is =
-    ap (λ (t : Bool). cond t (Some Empty) (whole_record (rec_at (rec_text r)))) (no_dash r)
-    ∙ ap whole_record (ap rec_at (sym (append-nil (rec_text r))) ∙ rec_again r [] is)
-
-paired_is : (p : List NameText) (o : Option Payload) (x : List NameText × Payload) → paired p o ≡ Some x → (o ≡ Some x.1) × (p ≡ x.0)
-paired_is p None x e = absurd cc
-paired_is p (Some y) x e = let is = some_is (p, y) x e in (ap (λ (z : List NameText × Payload). Some z.1) is, ap (λ (z : List NameText × Payload). z.0) is)
-
--- behind the path stand a space and the payload
-behind_is : (o : Option (List NameText × List ℕ)) (x : List NameText × Payload) → payload_behind o ≡ Some x → (rest : List ℕ) × (o ≡ Some (x.0, 32 ∷ rest)) × (spelled_payload rest ≡ Some x.1)
-behind_is None x e = absurd cc
-behind_is (Some (p, [])) x e = absurd cc
-behind_is (Some (p, b ∷ rest)) x e =
-    let g = guard_some (eqb b 32) (paired p (spelled_payload rest)) x e in
-    let s = paired_is p (spelled_payload rest) x g.1 in
-    (rest, (λ i. Some (s.1 i, eqb-true b 32 g.0 i ∷ rest)), s.0)
-
-pub spelled_pair-takes : (text : List ℕ) (x : List NameText × Payload) → spelled_pair text ≡ Some x → (text ≡ assigned_text x.0 x.1) × (IsPath x.0 × IsPayload x.1)
-unfolding spelled_pair assigned_text
-spelled_pair-takes text x e =
-    let b = behind_is (path_at text) x e in
-    let p = path_takes text (x.0, 32 ∷ b.0) b.1 in
-    let y = spelled_payload-takes b.0 x.1 b.2 in
-    (p.0 ∙ ap (λ (t : List ℕ). path_text x.0 ++ 32 ∷ t) y.0, (p.1, y.1))
-
-pub spelled_pair-again : (p : List NameText) (x : Payload) → IsPath p → IsPayload x → spelled_pair (assigned_text p x) ≡ Some (p, x)
-unfolding spelled_pair assigned_text is_plain
-spelled_pair-again p x is-path is-payload =
-    ap payload_behind (path_again p (32 ∷ payload_text x) is-path refl) ∙ ap (paired p) (spelled_payload-again x is-payload)
+use Rattle.khepri_types.specs.declared.pattern.PatternPart.{PatternPart}
+use Rattle.khepri_types.specs.declared.watch.Watching.{Watching}
+use Rattle.khepri_types.specs.PatternTexts.{pattern_text, IsPattern}
+use Rattle.khepri_types.specs.Texts.{assigned_text, command_text, line_text}
+use Rattle.khepri_types.specs.Spelled.{IsNode, IsPayload, IsWatching, IsCommand, IsLine}
+use Rattle.khepri_types.specs.Reading.{begins, spelled_path, Assigned, spelled_assigned, assigning, naming, spelled_cas, spelled_pattern, scanning, spelled_many, spelled_command, asked, line_at}
+use Rattle.khepri_types.proofs.AskedSpelling.{spelled_pattern-takes, spelled_pattern-again, cas_takes, cas_again, many_command-takes, many_command-again}
+pub use Rattle.khepri_types.proofs.PayloadSpelling.{spelled_payload-takes, spelled_payload-again, spelled_path-takes, spelled_path-again, payload_takes, payload_again, spelled_assigned-takes, spelled_assigned-again}
+use Rattle.khepri_types.proofs.Word.{if_read, word_takes}
 
 -- ---- commands
 
-assigning_is : (command : List NameText → Payload → Command) (o : Option (List NameText × Payload)) (c : Command) → assigning command o ≡ Some c → (x : List NameText × Payload) × (o ≡ Some x) × (command x.0 x.1 ≡ c)
+assigning_is : (command : List NameText → Payload → Watching → Command) (o : Option Assigned) (c : Command) → assigning command o ≡ Some c → (a : Assigned) × (o ≡ Some a) × (command a.path a.payload a.watch ≡ c)
 assigning_is command None c e = absurd cc
-assigning_is command (Some x) c e = (x, refl, some_is (command x.0 x.1) c e)
+assigning_is command (Some a) c e = (a, refl, some_is (command a.path a.payload a.watch) c e)
 
 naming_is : (command : List NameText → Command) (o : Option (List NameText)) (c : Command) → naming command o ≡ Some c → (p : List NameText) × (o ≡ Some p) × (command p ≡ c)
 naming_is command None c e = absurd cc
 naming_is command (Some p) c e = (p, refl, some_is (command p) c e)
 
--- a command of a path and a payload, whose word the text begins with
-assigning_takes : (command : List NameText → Payload → Command) (word text : List ℕ) (c : Command)
-    → ((p : List NameText) (x : Payload) → command_text (command p x) ≡ word ++ assigned_text p x)
-    → ((p : List NameText) (x : Payload) → IsPath p × IsPayload x → IsCommand (command p x))
-    → begins word text ≡ true → assigning command (spelled_pair (drop (length word) text)) ≡ Some c → (text ≡ command_text c) × IsCommand c
+-- a command of a path, a payload and watches, whose word the text begins with
+assigning_takes : (command : List NameText → Payload → Watching → Command) (word text : List ℕ) (c : Command)
+    → ((p : List NameText) (x : Payload) (w : Watching) → command_text (command p x w) ≡ word ++ assigned_text p x w)
+    → ((p : List NameText) (x : Payload) (w : Watching) → IsPath p × IsPayload x × IsWatching w → IsCommand (command p x w))
+    → begins word text ≡ true → assigning command (spelled_assigned (drop (length word) text)) ≡ Some c → (text ≡ command_text c) × IsCommand c
 assigning_takes command word text c spells allows begun e =
-    let a = assigning_is command (spelled_pair (drop (length word) text)) c e in
-    let t = spelled_pair-takes (drop (length word) text) a.0 a.1 in
+    let a = assigning_is command (spelled_assigned (drop (length word) text)) c e in
+    let t = spelled_assigned-takes (drop (length word) text) a.0 a.1 in
     subst (λ (d : Command). (text ≡ command_text d) × IsCommand d) a.2
-    (word_takes word text begun ∙ (ap (λ (r : List ℕ). word ++ r) t.0 ∙ sym (spells a.0.0 a.0.1)), allows a.0.0 a.0.1 t.1)
+    (word_takes word text begun ∙ (ap (λ (r : List ℕ). word ++ r) t.0 ∙ sym (spells a.0.path a.0.payload a.0.watch)), allows a.0.path a.0.payload a.0.watch t.1)
 
 -- a command of a path, whose word the text begins with
 naming_takes : (command : List NameText → Command) (word text : List ℕ) (c : Command)
@@ -135,17 +53,32 @@ naming_takes command word text c spells allows begun e =
     subst (λ (d : Command). (text ≡ command_text d) × IsCommand d) a.2
     (word_takes word text begun ∙ (ap (λ (r : List ℕ). word ++ r) t.0 ∙ sym (spells a.0)), allows a.0 t.1)
 
-put_text : (p : List NameText) (x : Payload) → command_text (Put p x) ≡ codes "put " ++ assigned_text p x
-unfolding command_text
-put_text p x = refl
+scanning_is : (command : List PatternPart → Command) (o : Option (List PatternPart)) (c : Command) → scanning command o ≡ Some c → (parts : List PatternPart) × (o ≡ Some parts) × (command parts ≡ c)
+scanning_is command None c e = absurd cc
+scanning_is command (Some parts) c e = (parts, refl, some_is (command parts) c e)
 
-create_text : (p : List NameText) (x : Payload) → command_text (Create p x) ≡ codes "create " ++ assigned_text p x
-unfolding command_text
-create_text p x = refl
+-- a command of a pattern, whose word the text begins with
+scanning_takes : (command : List PatternPart → Command) (word text : List ℕ) (c : Command)
+    → ((parts : List PatternPart) → command_text (command parts) ≡ word ++ pattern_text parts)
+    → ((parts : List PatternPart) → IsPattern parts → IsCommand (command parts))
+    → begins word text ≡ true → scanning command (spelled_pattern (drop (length word) text)) ≡ Some c → (text ≡ command_text c) × IsCommand c
+scanning_takes command word text c spells allows begun e =
+    let a = scanning_is command (spelled_pattern (drop (length word) text)) c e in
+    let t = spelled_pattern-takes (drop (length word) text) a.0 a.1 in
+    subst (λ (d : Command). (text ≡ command_text d) × IsCommand d) a.2
+    (word_takes word text begun ∙ (ap (λ (r : List ℕ). word ++ r) t.0 ∙ sym (spells a.0)), allows a.0 t.1)
 
-update_text : (p : List NameText) (x : Payload) → command_text (Update p x) ≡ codes "update " ++ assigned_text p x
+put_text : (p : List NameText) (x : Payload) (w : Watching) → command_text (Put p x w) ≡ codes "put " ++ assigned_text p x w
 unfolding command_text
-update_text p x = refl
+put_text p x w = refl
+
+create_text : (p : List NameText) (x : Payload) (w : Watching) → command_text (Create p x w) ≡ codes "create " ++ assigned_text p x w
+unfolding command_text
+create_text p x w = refl
+
+update_text : (p : List NameText) (x : Payload) (w : Watching) → command_text (Update p x w) ≡ codes "update " ++ assigned_text p x w
+unfolding command_text
+update_text p x w = refl
 
 clear_text : (p : List NameText) → command_text (Clear p) ≡ codes "clear " ++ path_text p
 unfolding command_text
@@ -159,27 +92,43 @@ get_text : (p : List NameText) → command_text (Get p) ≡ codes "get " ++ path
 unfolding command_text
 get_text p = refl
 
+delmany_text : (parts : List PatternPart) → command_text (Delmany parts) ≡ codes "delmany " ++ pattern_text parts
+unfolding command_text
+delmany_text parts = refl
+
+count_text : (parts : List PatternPart) → command_text (Count parts) ≡ codes "count " ++ pattern_text parts
+unfolding command_text
+count_text parts = refl
+
 -- what is read as a command has a spelling, and is spelled so
 pub spelled_command-takes : (text : List ℕ) (c : Command) → spelled_command text ≡ Some c → (text ≡ command_text c) × IsCommand c
 unfolding spelled_command
 spelled_command-takes text c e =
-    if_read {P = (text ≡ command_text c) × IsCommand c} (begins (codes "put ") text) (assigning Put (spelled_pair (drop 4 text))) _ c e (assigning_takes Put (codes "put ") text c put_text (λ p x is. is))
-    (λ e. if_read {P = (text ≡ command_text c) × IsCommand c} (begins (codes "create ") text) (assigning Create (spelled_pair (drop 7 text))) _ c e (assigning_takes Create (codes "create ") text c create_text (λ p x is. is))
-    (λ e. if_read {P = (text ≡ command_text c) × IsCommand c} (begins (codes "update ") text) (assigning Update (spelled_pair (drop 7 text))) _ c e (assigning_takes Update (codes "update ") text c update_text (λ p x is. is))
+    if_read {P = (text ≡ command_text c) × IsCommand c} (begins (codes "put ") text) (assigning Put (spelled_assigned (drop 4 text))) _ c e (assigning_takes Put (codes "put ") text c put_text (λ p x w is. is))
+    (λ e. if_read {P = (text ≡ command_text c) × IsCommand c} (begins (codes "create ") text) (assigning Create (spelled_assigned (drop 7 text))) _ c e (assigning_takes Create (codes "create ") text c create_text (λ p x w is. is))
+    (λ e. if_read {P = (text ≡ command_text c) × IsCommand c} (begins (codes "update ") text) (assigning Update (spelled_assigned (drop 7 text))) _ c e (assigning_takes Update (codes "update ") text c update_text (λ p x w is. is))
+    (λ e. if_read {P = (text ≡ command_text c) × IsCommand c} (begins (codes "cas ") text) (spelled_cas (drop 4 text)) _ c e (λ is h. let t = cas_takes (drop 4 text) c h in (word_takes (codes "cas ") text is ∙ t.0, t.1))
     (λ e. if_read {P = (text ≡ command_text c) × IsCommand c} (begins (codes "clear ") text) (naming Clear (spelled_path (drop 6 text))) _ c e (naming_takes Clear (codes "clear ") text c clear_text (λ p is. is))
     (λ e. if_read {P = (text ≡ command_text c) × IsCommand c} (begins (codes "del ") text) (naming Del (spelled_path (drop 4 text))) _ c e (naming_takes Del (codes "del ") text c del_text (λ p is. is))
+    (λ e. if_read {P = (text ≡ command_text c) × IsCommand c} (begins (codes "delmany ") text) (scanning Delmany (spelled_pattern (drop 8 text))) _ c e (scanning_takes Delmany (codes "delmany ") text c delmany_text (λ parts is. is))
     (λ e. if_read {P = (text ≡ command_text c) × IsCommand c} (begins (codes "get ") text) (naming Get (spelled_path (drop 4 text))) _ c e (naming_takes Get (codes "get ") text c get_text (λ p is. is))
-    (λ e. absurd cc))))))
+    (λ e. if_read {P = (text ≡ command_text c) × IsCommand c} (begins (codes "many ") text) (spelled_many (drop 5 text)) _ c e (λ is h. let t = many_command-takes (drop 5 text) c h in (word_takes (codes "many ") text is ∙ t.0, t.1))
+    (λ e. if_read {P = (text ≡ command_text c) × IsCommand c} (begins (codes "count ") text) (scanning Count (spelled_pattern (drop 6 text))) _ c e (scanning_takes Count (codes "count ") text c count_text (λ parts is. is))
+    (λ e. absurd cc))))))))))
 
 -- what is spelled as a command is read again
 pub spelled_command-again : (c : Command) → IsCommand c → spelled_command (command_text c) ≡ Some c
 unfolding spelled_command command_text
-spelled_command-again (Put p x) is = ap (assigning Put) (spelled_pair-again p x is.0 is.1)
-spelled_command-again (Create p x) is = ap (assigning Create) (spelled_pair-again p x is.0 is.1)
-spelled_command-again (Update p x) is = ap (assigning Update) (spelled_pair-again p x is.0 is.1)
+spelled_command-again (Put p x w) is = ap (assigning Put) (spelled_assigned-again p x w is.0 is.1 is.2)
+spelled_command-again (Create p x w) is = ap (assigning Create) (spelled_assigned-again p x w is.0 is.1 is.2)
+spelled_command-again (Update p x w) is = ap (assigning Update) (spelled_assigned-again p x w is.0 is.1 is.2)
+spelled_command-again (Cas p v x w) is = cas_again p v x w is.0 is.1 is.2 is.3
 spelled_command-again (Clear p) is = ap (naming Clear) (spelled_path-again p is)
 spelled_command-again (Del p) is = ap (naming Del) (spelled_path-again p is)
+spelled_command-again (Delmany parts) is = ap (scanning Delmany) (spelled_pattern-again parts is)
 spelled_command-again (Get p) is = ap (naming Get) (spelled_path-again p is)
+spelled_command-again (Many parts limit) is = many_command-again parts limit is.0 is.1 is.2
+spelled_command-again (Count parts) is = ap (scanning Count) (spelled_pattern-again parts is)
 
 -- ---- input lines
 

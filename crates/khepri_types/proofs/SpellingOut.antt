@@ -1,17 +1,15 @@
 -- What is read of replies and output lines is spelled so, and what is spelled so is read.
-use Rattle.std.proofs.Common.{◌≡◌, ℕ, ◌+◌, ◌-◌, ◌≤◌, Bool, true, false, cond, eqb, leb, ◌&&◌, List, [], ◌∷◌, ◌++◌, length, drop, refl, sym, ap, subst, ◌∙◌, append_assoc, arith, Option, Some, None, codes, decimal}
+use Rattle.std.proofs.Common.{◌≡◌, ℕ, ◌+◌, ◌-◌, ◌≤◌, Bool, true, false, cond, eqb, leb, ◌&&◌, List, [], ◌∷◌, ◌++◌, drop, refl, sym, ap, subst, ◌∙◌, append_assoc, arith, Option, Some, None, codes, decimal}
 use Rattle.std.specs.Cmp.Lexicographic.{same_text}
 use Rattle.std.proofs.lemmas.Bool.{eqb-true, le-leb}
 use Rattle.std.proofs.lemmas.Fmt.{decimal_digit}
-use Rattle.std.proofs.lemmas.List.{append-nil}
+use Rattle.khepri_terms.specs.Terms.{NameText}
+use Rattle.khepri_terms.specs.Paths.{IsPath, path_text}
 use Rattle.khepri_terms.specs.Many.{◌>>=◌}
-use Rattle.khepri_terms.specs.Numbers.{number_at}
 use Rattle.khepri_terms.proofs.Cases.{bind_some, guard_some, some_is, and_true}
-use Rattle.khepri_terms.proofs.NumbersLaws.{number_takes, number_again}
-use Rattle.khepri_types.specs.declared.limits.TheConstants.{MAX_NUMBER}
 use Rattle.khepri_types.specs.declared.node.Payload.{Payload}
 use Rattle.khepri_types.specs.declared.command.Command.{Command}
-use Rattle.khepri_types.specs.declared.command.Command.TheVariants.{Put, Create, Update, Clear, Del, Get}
+use Rattle.khepri_types.specs.declared.command.Command.TheVariants.{Put, Create, Update, Cas, Clear, Del, Delmany, Get, Many, Count}
 use Rattle.khepri_types.specs.declared.reply.Reply.{Reply}
 use Rattle.khepri_types.specs.declared.reply.Reply.TheVariants as reply
 use Rattle.khepri_types.specs.declared.out.EntryText.{EntryText}
@@ -26,9 +24,13 @@ use Rattle.khepri_types.specs.declared.out.OutLine.{OutLine}
 use Rattle.khepri_types.specs.declared.out.OutLine.TheVariants as out
 use Rattle.khepri_types.specs.Texts.{payload_text, command_text, reply_text, entry_text, reason_text, stop_text, rows_text, out_text}
 use Rattle.khepri_types.specs.Spelled.{IsNumber, IsNode, IsPayload, IsCommand, IsReply, IsEntryText, HasSpelling}
-use Rattle.khepri_types.specs.Reading.{begins, is_word, spelled_payload, spelled_command}
-use Rattle.khepri_types.specs.ReadingOut.{after_word, number_before, whole_number, spelled_number, changed_at, node_at, spelled_no, spelled_reply, command_entry, fire_entry, older_entry, spelled_entry, spelled_reason, spelled_stop, spelled_rows, entry_line, reply_line, refused_line, end_line, pending_line, rows_line, leads_line, follows_line, stopped_line, node_news, node_line, out_at}
-use Rattle.khepri_types.proofs.Spelling.{if_read, word_takes, spelled_payload-takes, spelled_payload-again, spelled_command-takes, spelled_command-again, digit_is}
+use Rattle.khepri_types.specs.Reading.{begins, is_word, spelled_payload, spelled_path, spelled_command}
+use Rattle.khepri_types.specs.ReadingNumbers.{number_before, spelled_number}
+use Rattle.khepri_types.specs.ReadingOut.{changed_at, node_at, nodes_at, count_at, while_no, spelled_no, spelled_reply, command_entry, fire_entry, older_entry, spelled_entry, spelled_reason, spelled_stop, spelled_rows, entry_line, reply_line, refused_line, end_line, pending_line, rows_line, leads_line, follows_line, stopped_line, node_news, node_line, out_at}
+use Rattle.khepri_types.proofs.Word.{if_read, word_takes}
+use Rattle.khepri_types.proofs.NumberSpelling.{joined, before_takes, space_again, at_again, spelled_number-takes, spelled_number-again}
+use Rattle.khepri_types.proofs.ListSpelling.{SpellsReply, nodes_takes, nodes_again}
+use Rattle.khepri_types.proofs.Spelling.{spelled_payload-takes, spelled_payload-again, spelled_path-takes, spelled_path-again, spelled_command-takes, spelled_command-again, digit_is}
 
 -- a text that is this word
 word_is : {A : Type 0} (Is : List ℕ → A → Type 0) (a x : A) (word text : List ℕ) → Is word a → is_word word text ≡ true → Some a ≡ Some x → Is text x
@@ -38,49 +40,7 @@ both_cases : {A : Type 0} (t : Bool) (a b x : A) → a ≡ x → b ≡ x → con
 both_cases true a b x e f = e
 both_cases false a b x e f = f
 
-joined : (a b c d : List ℕ) → a ++ b ++ c ++ d ≡ a ++ (b ++ (c ++ d))
-joined a b c d = append_assoc (a ++ b) c d ∙ append_assoc a b (c ++ d)
-
--- ---- numbers
-
-before_takes : (word text : List ℕ) (x : ℕ × List ℕ) → number_before word text ≡ Some x → (text ≡ decimal x.0 ++ (word ++ x.1)) × IsNumber x.0
-unfolding number_before after_word
-before_takes word text x e =
-    let a = bind_some (number_at MAX_NUMBER text) (λ n. after_word word n.1 >>= λ rest. Some (n.0, rest)) x e in
-    let b = bind_some (after_word word a.0.1) (λ rest. Some (a.0.0, rest)) x a.2 in
-    let g = guard_some (begins word a.0.1) (Some (drop (length word) a.0.1)) b.0 b.1 in
-    let w : a.0.1 ≡ word ++ b.0 = word_takes word a.0.1 g.0 ∙ ap (λ (t : List ℕ). word ++ t) (some_is (drop (length word) a.0.1) b.0 g.1) in
-    let t = number_takes MAX_NUMBER text a.0 (omega arith) (omega arith) a.1 in
-    subst (λ (y : ℕ × List ℕ). (text ≡ decimal y.0 ++ (word ++ y.1)) × IsNumber y.0) (some_is (a.0.0, b.0) x b.2) (t.0 ∙ ap (λ (r : List ℕ). decimal a.0.0 ++ r) w, t.1)
-
-space_again : (n : ℕ) (rest : List ℕ) → IsNumber n → number_before (codes " ") (decimal n ++ 32 ∷ rest) ≡ Some (n, rest)
-unfolding number_before after_word
-space_again n rest le = ap (λ (o : Option (ℕ × List ℕ)). o >>= λ x. after_word (codes " ") x.1 >>= λ r. Some (x.0, r)) (number_again MAX_NUMBER n (32 ∷ rest) le (omega (arith, le)) refl)
-
-at_again : (n : ℕ) (rest : List ℕ) → IsNumber n → number_before (codes " @") (decimal n ++ 32 ∷ 64 ∷ rest) ≡ Some (n, rest)
-unfolding number_before after_word
-at_again n rest le = ap (λ (o : Option (ℕ × List ℕ)). o >>= λ x. after_word (codes " @") x.1 >>= λ r. Some (x.0, r)) (number_again MAX_NUMBER n (32 ∷ 64 ∷ rest) le (omega (arith, le)) refl)
-
-whole_number_is : (o : Option (ℕ × List ℕ)) (n : ℕ) → whole_number o ≡ Some n → o ≡ Some (n, [])
-whole_number_is None n e = absurd cc
-whole_number_is (Some (m, [])) n e = ap (λ (k : ℕ). Some (k, [])) (some_is m n e)
-whole_number_is (Some (m, b ∷ rest)) n e = absurd cc
-
-spelled_number-takes : (text : List ℕ) (n : ℕ) → spelled_number text ≡ Some n → (text ≡ decimal n) × IsNumber n
-unfolding spelled_number
-spelled_number-takes text n e =
-    let t = number_takes MAX_NUMBER text (n, []) (omega arith) (omega arith) (whole_number_is (number_at MAX_NUMBER text) n e) in
-    (t.0 ∙ append-nil (decimal n), t.1)
-
-spelled_number-again : (n : ℕ) → IsNumber n → spelled_number (decimal n) ≡ Some n
-unfolding spelled_number
-spelled_number-again n le = ap whole_number (ap (number_at MAX_NUMBER) (sym (append-nil (decimal n))) ∙ number_again MAX_NUMBER n [] le (omega (arith, le)) tt)
-
 -- ---- replies
-
--- the text is the spelling of this reply
-abbrev pub SpellsReply : List ℕ → Reply → Type 0
-SpellsReply text x = (text ≡ reply_text x) × IsReply x
 
 changed_takes : (text : List ℕ) (x : Reply) → changed_at text ≡ Some x → SpellsReply (codes "ok " ++ text) x
 unfolding changed_at reply_text
@@ -125,6 +85,28 @@ node_again pv cv kids x is-pv is-cv is-kids is-x =
     ∙ (ap (λ (o : Option (ℕ × List ℕ)). o >>= λ c. spelled_payload c.1 >>= λ d. Some (reply.Node pv cv c.0 d)) (space_again kids (payload_text x) is-kids)
     ∙ ap (λ (o : Option Payload). o >>= λ d. Some (reply.Node pv cv kids d)) (spelled_payload-again x is-x))))
 
+count_takes : (text : List ℕ) (x : Reply) → count_at text ≡ Some x → SpellsReply (codes "count " ++ text) x
+unfolding count_at reply_text
+count_takes text x e =
+    let a = bind_some (spelled_number text) (λ n. Some (reply.Count n)) x e in
+    let n = spelled_number-takes text a.0 a.1 in
+    subst (SpellsReply (codes "count " ++ text)) (some_is (reply.Count a.0) x a.2) (ap (λ (t : List ℕ). codes "count " ++ t) n.0, n.1)
+
+count_again : (n : ℕ) → IsNumber n → count_at (decimal n) ≡ Some (reply.Count n)
+unfolding count_at
+count_again n is = ap (λ (o : Option ℕ). o >>= λ m. Some (reply.Count m)) (spelled_number-again n is)
+
+while_takes : (text : List ℕ) (x : Reply) → while_no text ≡ Some x → SpellsReply (codes "no while " ++ text) x
+unfolding while_no reply_text
+while_takes text x e =
+    let a = bind_some (spelled_path text) (λ p. Some (reply.NoWhile p)) x e in
+    let t = spelled_path-takes text a.0 a.1 in
+    subst (SpellsReply (codes "no while " ++ text)) (some_is (reply.NoWhile a.0) x a.2) (ap (λ (r : List ℕ). codes "no while " ++ r) t.0, t.1)
+
+while_again : (p : List NameText) → IsPath p → while_no (path_text p) ≡ Some (reply.NoWhile p)
+unfolding while_no
+while_again p is = ap (λ (o : Option (List NameText)). o >>= λ q. Some (reply.NoWhile q)) (spelled_path-again p is)
+
 no_takes : (text : List ℕ) (x : Reply) → spelled_no text ≡ Some x → SpellsReply text x
 unfolding spelled_no reply_text
 no_takes text x e =
@@ -132,24 +114,32 @@ no_takes text x e =
     (λ e. if_read {P = SpellsReply text x} (is_word (codes "no deep") text) (Some reply.NoDeep) _ x e (word_is SpellsReply reply.NoDeep x (codes "no deep") text (refl, tt))
     (λ e. if_read {P = SpellsReply text x} (is_word (codes "no exists") text) (Some reply.NoExists) _ x e (word_is SpellsReply reply.NoExists x (codes "no exists") text (refl, tt))
     (λ e. if_read {P = SpellsReply text x} (is_word (codes "no absent") text) (Some reply.NoAbsent) _ x e (word_is SpellsReply reply.NoAbsent x (codes "no absent") text (refl, tt))
+    (λ e. if_read {P = SpellsReply text x} (is_word (codes "no mismatch") text) (Some reply.NoMismatch) _ x e (word_is SpellsReply reply.NoMismatch x (codes "no mismatch") text (refl, tt))
     (λ e. if_read {P = SpellsReply text x} (is_word (codes "no full") text) (Some reply.NoFull) _ x e (word_is SpellsReply reply.NoFull x (codes "no full") text (refl, tt))
-    (λ e. absurd cc)))))
+    (λ e. if_read {P = SpellsReply text x} (begins (codes "no while ") text) (while_no (drop 9 text)) None x e (λ is h. let t = while_takes (drop 9 text) x h in (word_takes (codes "no while ") text is ∙ t.0, t.1))
+    (λ e. absurd cc)))))))
 
 pub spelled_reply-takes : (text : List ℕ) (x : Reply) → spelled_reply text ≡ Some x → SpellsReply text x
 unfolding spelled_reply
 spelled_reply-takes text x e =
     if_read {P = SpellsReply text x} (begins (codes "ok ") text) (changed_at (drop 3 text)) _ x e (λ is h. let t = changed_takes (drop 3 text) x h in (word_takes (codes "ok ") text is ∙ t.0, t.1))
     (λ e. if_read {P = SpellsReply text x} (begins (codes "node ") text) (node_at (drop 5 text)) _ x e (λ is h. let t = node_takes (drop 5 text) x h in (word_takes (codes "node ") text is ∙ t.0, t.1))
-    (λ e. no_takes text x e))
+    (λ e. if_read {P = SpellsReply text x} (begins (codes "nodes ") text) (nodes_at (drop 6 text)) _ x e (λ is h. let t = nodes_takes (drop 6 text) x h in (word_takes (codes "nodes ") text is ∙ t.0, t.1))
+    (λ e. if_read {P = SpellsReply text x} (begins (codes "count ") text) (count_at (drop 6 text)) _ x e (λ is h. let t = count_takes (drop 6 text) x h in (word_takes (codes "count ") text is ∙ t.0, t.1))
+    (λ e. no_takes text x e))))
 
 pub spelled_reply-again : (x : Reply) → IsReply x → spelled_reply (reply_text x) ≡ Some x
 unfolding spelled_reply spelled_no reply_text
 spelled_reply-again (reply.Changed n k) is = changed_again n k is.0 is.1
 spelled_reply-again (reply.Node pv cv kids x) is = node_again pv cv kids x is.0 is.1 is.2 is.3
+spelled_reply-again (reply.Nodes m nodes) is = nodes_again m nodes is.0 is.1
+spelled_reply-again (reply.Count m) is = count_again m is
 spelled_reply-again reply.NoRoot is = refl
 spelled_reply-again reply.NoDeep is = refl
 spelled_reply-again reply.NoExists is = refl
 spelled_reply-again reply.NoAbsent is = refl
+spelled_reply-again reply.NoMismatch is = refl
+spelled_reply-again (reply.NoWhile p) is = while_again p is
 spelled_reply-again reply.NoFull is = refl
 
 -- ---- what stands in a `#` line
@@ -189,12 +179,16 @@ older_takes text x e =
 -- a command is no fire and no noop
 older_command : (c : Command) → older_entry (command_text c) ≡ command_entry (command_text c)
 unfolding older_entry command_text
-older_command (Put p x) = refl
-older_command (Create p x) = refl
-older_command (Update p x) = refl
+older_command (Put p x w) = refl
+older_command (Create p x w) = refl
+older_command (Update p x w) = refl
+older_command (Cas p c x w) = refl
 older_command (Clear p) = refl
 older_command (Del p) = refl
+older_command (Delmany parts) = refl
 older_command (Get p) = refl
+older_command (Many parts limit) = refl
+older_command (Count parts) = refl
 
 pub spelled_entry-takes : (l : ℕ) (text : List ℕ) (x : EntryText) → spelled_entry l text ≡ Some x → (text ≡ entry_text x) × IsEntryText l x
 unfolding spelled_entry

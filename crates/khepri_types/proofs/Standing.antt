@@ -12,17 +12,11 @@ use Rattle.khepri_terms.specs.Order.{name_cmp, path_cmp}
 use Rattle.khepri_terms.proofs.Cases.{and_true}
 use Rattle.khepri_types.specs.declared.node.Payload.{Payload}
 use Rattle.khepri_types.specs.declared.node.Payload.TheVariants.{Empty}
-use Rattle.khepri_types.specs.declared.command.Command.{Command}
-use Rattle.khepri_types.specs.declared.out.EntryText.{EntryText}
-use Rattle.khepri_types.specs.declared.out.EntryText.TheVariants as text
 use Rattle.khepri_types.specs.Tree.{Tree, IsTree, stands, fresh, set, opening_tree}
 use Rattle.khepri_types.specs.Paths.{is_front, is_under}
 use Rattle.khepri_types.specs.Drop.{drop}
-use Rattle.khepri_types.specs.Exec.{State, state_of, exec_command}
-use Rattle.khepri_types.specs.History.{run_from}
 use Rattle.khepri_types.proofs.Order.{path_cmp_total, path_cmp-same}
 use Rattle.khepri_types.proofs.Dropping.{stands-drop, stood-drop}
-use Rattle.khepri_types.proofs.After.{met}
 use Rattle.khepri_types.proofs.Trees.{tie_is, set-at_path, set-on_the_way, set-elsewhere}
 
 -- q is the front of p that has i names
@@ -114,7 +108,7 @@ under_front : (paths : List (List NameText)) (q : List NameText) (i : ℕ) → i
 under_front [] q i h = refl
 under_front (p ∷ paths) q i h = neither (is_front p (take i q)) (is_front p q) (is_under paths (take i q)) (is_under paths q) (front_on p q i) (under_front paths q i) h
 
-not_root : (n : NameText) (p : List NameText) → is_under ((n ∷ p) ∷ []) [] ≡ false
+pub not_root : (n : NameText) (p : List NameText) → is_under ((n ∷ p) ∷ []) [] ≡ false
 unfolding is_front
 not_root n p = refl
 
@@ -126,19 +120,3 @@ tree-drop T paths low tree = record {
       let was = (stood-drop T paths q h).1 in
       stands-drop T paths (take i q) (under_front paths q i was.apart) (tree.fronts q i le (ap is_some was.stood));
 }
-
--- ---- and after all that follow
-
-pub tree-after : (S : State) (c : Command) → IsTree S.tree → IsTree (exec_command S c).1.tree
-tree-after S c tree = met (λ y. IsTree y.1.tree) S c (record {
-  refuses = λ r is. tree;
-  shows = λ p. tree;
-  sets = λ p x may fit. tree-set S.tree p x tree;
-  drops = λ n p fit. tree-drop S.tree ((n ∷ p) ∷ []) (not_root n p) tree;
-})
-
-pub tree-run : (es : List EntryText) (S : State) → IsTree S.tree → IsTree (run_from S es).tree
-tree-run [] S tree = tree
-tree-run (text.Command c ∷ es) S tree = tree-run es (state_of S (text.Command c)) (tree-after S c tree)
-tree-run (text.Fire s ∷ es) S tree = tree-run es (state_of S (text.Fire s)) tree
-tree-run (text.Noop ∷ es) S tree = tree-run es (state_of S text.Noop) tree

@@ -1,14 +1,13 @@
 -- What a state is, and what an entry does to it.
-use Rattle.std.specs.Prelude.{ℕ, ◌+◌, ◌-◌, Bool, ltb, if◌then◌else◌, List, [], ◌∷◌, length, Option, Some, None}
+use Rattle.std.specs.Prelude.{ℕ, ◌+◌, ◌-◌, ◌||◌, if◌then◌else◌, List, [], ◌∷◌, length, take, map, Option, Some, None}
 use Rattle.std.specs.FinMap.{get, len}
 use Rattle.khepri_terms.specs.Terms.{NameText}
 use Rattle.khepri_terms.specs.declared.scalar.Scalar.{Scalar}
-use Rattle.khepri_types.specs.declared.limits.TheConstants.{MAX_PATH_NAMES}
 use Rattle.khepri_types.specs.declared.node.Node.{Node}
 use Rattle.khepri_types.specs.declared.node.Payload.{Payload}
 use Rattle.khepri_types.specs.declared.node.Payload.TheVariants.{Empty}
 use Rattle.khepri_types.specs.declared.command.Command.{Command}
-use Rattle.khepri_types.specs.declared.command.Command.TheVariants.{Put, Create, Update, Clear, Del, Get}
+use Rattle.khepri_types.specs.declared.command.Command.TheVariants.{Put, Create, Update, Cas, Clear, Del, Delmany, Get, Many, Count}
 use Rattle.khepri_types.specs.declared.command.Entry.{Entry}
 use Rattle.khepri_types.specs.declared.command.Entry.TheVariants as entry
 use Rattle.khepri_types.specs.declared.reply.Reply.{Reply}
@@ -17,7 +16,16 @@ use Rattle.khepri_types.specs.declared.out.EntryText.{EntryText}
 use Rattle.khepri_types.specs.declared.out.EntryText.TheVariants as text
 use Rattle.khepri_types.specs.declared.out.Rows.{Rows}
 use Rattle.khepri_types.specs.declared.out.Rows.TheVariants.{Absent}
-use Rattle.khepri_types.specs.Tree.{Tree, stands, set, opening_tree}
+use Rattle.khepri_types.specs.declared.pattern.PatternPart.{PatternPart}
+use Rattle.khepri_types.specs.declared.shown.ShownNode.{ShownNode}
+use Rattle.khepri_types.specs.declared.watch.Watch.{Watch}
+use Rattle.khepri_types.specs.declared.watch.Watching.{Watching}
+use Rattle.khepri_types.specs.declared.watch.Watching.TheVariants.{Stay}
+use Rattle.khepri_types.specs.Tree.{Tree, stands, opening_tree}
+use Rattle.khepri_types.specs.Conditions.{holds_at}
+use Rattle.khepri_types.specs.Patterns.{matching_nodes, matching}
+use Rattle.khepri_types.specs.Settling.{settle, gone}
+use Rattle.khepri_types.specs.Watching.{set_watched, is_deep, watches_root, has_deep_target, unmet_of}
 use Rattle.khepri_types.specs.Drop.{drop}
 use Rattle.khepri_types.specs.Sizes.{kids, fits}
 
@@ -47,32 +55,67 @@ refused S r = (r, passed_over S)
 abbrev pub changed : State → Tree → Reply → Reply × State
 changed S T r = if fits T then (r, record { tree = T; position = S.position + 1 }) else refused S reply.NoFull
 
--- the path has more names than the path of a node may have
-abbrev pub is_deep : List NameText → Bool
-is_deep p = ltb MAX_PATH_NAMES (length p)
+-- what is left of the changed tree when it has settled, unless that would pass a limit; the reply has this number, and how many
+-- nodes settling removed
+abbrev pub settled : State → Tree → ℕ → Reply × State
+settled S T number = changed S (settle T) (reply.Changed number (gone T))
 
--- the payload is set at the path; the reply has the version after the change
-abbrev pub write : State → List NameText → Payload → Reply × State
-write S p x = changed S (set S.tree p x) (reply.Changed (pv_of (get (set S.tree p x) p)) 0)
+-- so, unless there is a watch of a written node that isn't met in the changed tree
+abbrev pub settled_unless : Option Watch → State → Tree → ℕ → Reply × State
+settled_unless None S T number = settled S T number
+settled_unless (Some w) S T number = refused S (reply.NoWhile w.target)
 
--- the node at the path and all below it are dropped; the reply has their number
+-- the node at the path was written, which made this tree; the reply has its payload version after the change
+abbrev pub wrote : State → List NameText → Tree → Reply × State
+wrote S p T = settled_unless (unmet_of T (get T p)) S T (pv_of (get T p))
+
+-- the payload is set at the path, and then the watches of its node
+abbrev pub write : State → List NameText → Payload → Watching → Reply × State
+write S p x w = wrote S p (set_watched S.tree p x w)
+
+-- a command that writes the node at the path goes on so, unless it gives the root watches, or the path or a target has too many names
+abbrev pub if_writable : State → List NameText → Watching → Reply × State → Reply × State
+if_writable S p w next = if watches_root p w then refused S reply.NoRoot else (if is_deep p || has_deep_target w then refused S reply.NoDeep else next)
+
+-- the nodes at these paths and all below them are dropped in one round; the reply has their number
+abbrev pub dropped : State → List (List NameText) → Reply × State
+dropped S paths = settled S (drop S.tree paths) (len S.tree - len (drop S.tree paths))
+
+-- the node at the path and all below it are dropped, unless it is the root
 abbrev pub delete : State → List NameText → Reply × State
 delete S [] = refused S reply.NoRoot
-delete S (n ∷ p) = changed S (drop S.tree ((n ∷ p) ∷ [])) (reply.Changed (len S.tree - len (drop S.tree ((n ∷ p) ∷ []))) 0)
+delete S (n ∷ p) = dropped S ((n ∷ p) ∷ [])
+
+-- all nodes that the pattern matches, and all below them, are dropped, unless it is the root's pattern
+abbrev pub delete_all : State → List PatternPart → Reply × State
+delete_all S [] = refused S reply.NoRoot
+delete_all S (P ∷ parts) = dropped S (matching (P ∷ parts) S.tree)
 
 -- the node at a path as a reply shows it
 abbrev pub shown : Tree → List NameText → Option Node → Reply
 shown T p None = reply.NoAbsent
 shown T p (Some n) = reply.Node n.pv n.cv (kids T p) n.payload
 
+-- a node and its path as a reply lists them
+abbrev pub shown_node : Tree → List NameText × Node → ShownNode
+shown_node T e = record { path = e.0; pv = e.1.pv; cv = e.1.cv; kids = kids T e.0; payload = e.1.payload }
+
+-- how many nodes the pattern matches, and the first of them, at most so many
+abbrev pub listed : Tree → List PatternPart → ℕ → Reply
+listed T parts limit = reply.Nodes (length (matching parts T)) (map (shown_node T) (take limit (matching_nodes parts T)))
+
 -- a command's reply and the next state
 abbrev pub exec_command : State → Command → Reply × State
-exec_command S (Put p x) = if is_deep p then refused S reply.NoDeep else write S p x
-exec_command S (Create p x) = if is_deep p then refused S reply.NoDeep else (if stands S.tree p then refused S reply.NoExists else write S p x)
-exec_command S (Update p x) = if is_deep p then refused S reply.NoDeep else (if stands S.tree p then write S p x else refused S reply.NoAbsent)
-exec_command S (Clear p) = if stands S.tree p then write S p Empty else refused S reply.NoAbsent
+exec_command S (Put p x w) = if_writable S p w (write S p x w)
+exec_command S (Create p x w) = if_writable S p w (if stands S.tree p then refused S reply.NoExists else write S p x w)
+exec_command S (Update p x w) = if_writable S p w (if stands S.tree p then write S p x w else refused S reply.NoAbsent)
+exec_command S (Cas p c x w) = if_writable S p w (if holds_at c S.tree p then write S p x w else refused S reply.NoMismatch)
+exec_command S (Clear p) = if stands S.tree p then write S p Empty Stay else refused S reply.NoAbsent
 exec_command S (Del p) = delete S p
+exec_command S (Delmany parts) = delete_all S parts
 exec_command S (Get p) = (shown S.tree p (get S.tree p), passed_over S)
+exec_command S (Many parts limit) = (listed S.tree parts limit, passed_over S)
+exec_command S (Count parts) = (reply.Count (length (matching parts S.tree)), passed_over S)
 
 -- an entry's reply and the next state
 abbrev pub exec : State → Entry → Reply × State

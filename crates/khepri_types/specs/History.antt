@@ -1,9 +1,10 @@
 -- The history that an output tells, and what it stands on.
-use Rattle.std.specs.Prelude.{ℕ, ◌+◌, List, [], ◌∷◌, length}
+use Rattle.std.specs.Prelude.{ℕ, ◌+◌, IsTrue, List, [], ◌∷◌, length, take}
 use Rattle.khepri_types.specs.declared.out.EntryText.{EntryText}
 use Rattle.khepri_types.specs.declared.out.OutLine.{OutLine}
 use Rattle.khepri_types.specs.declared.out.OutLine.TheVariants as out
 use Rattle.khepri_types.specs.Exec.{State, opening_state, state_of}
+use Rattle.khepri_types.specs.Settling.{stable}
 
 -- what a session begins with: a state at its position, and the entries that the nodes' stores hold from earlier sessions, by place
 pub record Opening : Type 0 where
@@ -32,3 +33,7 @@ state_after O lines = run_from O.state (history lines)
 -- how long the history is after these lines
 abbrev pub length_after : Opening → List OutLine → ℕ
 length_after O lines = O.state.position + length (history lines)
+
+-- after each front of the entries that these lines tell, no node of the tree fails
+abbrev pub StaysStable : Opening → List OutLine → Type 0
+StaysStable O lines = (n : ℕ) → IsTrue (stable (run_from O.state (take n (history lines))).tree)

@@ -1,24 +1,26 @@
 -- Reading lines from left to right.
-use Rattle.std.specs.Prelude.{ℕ, ◌-◌, Bool, ◌&&◌, nat_le, ◌==◌, if◌then◌else◌, List, [], ◌∷◌, length, take, drop, Option, Some, None, codes, nat_eq}
-use Rattle.std.specs.Cmp.Lexicographic.{pointwise}
+use Rattle.std.specs.Prelude.{ℕ, ◌-◌, ◌&&◌, nat_le, ◌==◌, if◌then◌else◌, List, [], ◌∷◌, drop, Option, Some, None, codes}
+use Rattle.khepri_terms.specs.Many.{many, ◌>>=◌}
 use Rattle.khepri_terms.specs.Terms.{NameText}
+use Rattle.khepri_terms.specs.Numbers.{number_at}
 use Rattle.khepri_terms.specs.Paths.{path_at}
 use Rattle.khepri_terms.specs.declared.rec.Field.{Field}
 use Rattle.khepri_terms.specs.Records.{rec_at}
 use Rattle.khepri_types.specs.declared.node.Payload.{Payload}
 use Rattle.khepri_types.specs.declared.node.Payload.TheVariants.{Empty, Fields}
 use Rattle.khepri_types.specs.declared.command.Command.{Command}
-use Rattle.khepri_types.specs.declared.command.Command.TheVariants.{Put, Create, Update, Clear, Del, Get}
+use Rattle.khepri_types.specs.declared.command.Command.TheVariants.{Put, Create, Update, Cas, Clear, Del, Delmany, Get, Many, Count}
 use Rattle.khepri_types.specs.declared.command.Line.{Line}
 use Rattle.khepri_types.specs.declared.command.Line.TheVariants as line
-
--- a text begins with this word
-abbrev pub begins : List ℕ → List ℕ → Bool
-begins word text = pointwise nat_eq (take (length word) text) word
-
--- the whole text is this word
-abbrev pub is_word : List ℕ → List ℕ → Bool
-is_word word text = pointwise nat_eq text word
+use Rattle.khepri_types.specs.declared.limits.TheConstants.{MAX_WATCHES, MAX_SHOWN_NODES}
+use Rattle.khepri_types.specs.declared.pattern.PatternPart.{PatternPart}
+use Rattle.khepri_types.specs.declared.watch.Watch.{Watch}
+use Rattle.khepri_types.specs.declared.watch.Watching.{Watching}
+use Rattle.khepri_types.specs.declared.watch.Watching.TheVariants.{Stay, Free, While}
+use Rattle.khepri_types.specs.ReadingConditions.{after_byte, condition_at, pattern_at}
+use Rattle.khepri_types.specs.ReadingNumbers.{whole_number}
+use Rattle.khepri_types.specs.Words.{after_word}
+pub use Rattle.khepri_types.specs.Words.{begins, is_word}
 
 -- a record that nothing follows
 abbrev pub whole_record : Option (List Field × List ℕ) → Option Payload
@@ -39,41 +41,113 @@ whole_path (Some (p, b ∷ rest)) = None
 unfoldable pub spelled_path : List ℕ → Option (List NameText)
 spelled_path text = whole_path (path_at text)
 
--- a path and its payload
-abbrev pub paired : List NameText → Option Payload → Option (List NameText × Payload)
-paired p None = None
-paired p (Some x) = Some (p, x)
+-- the fields of a record as a payload
+abbrev pub fields_at : Option (List Field × List ℕ) → Option (Payload × List ℕ)
+fields_at None = None
+fields_at (Some x) = Some (Fields x.0, x.1)
 
--- behind the path: a space, and a payload to the end
-abbrev pub payload_behind : Option (List NameText × List ℕ) → Option (List NameText × Payload)
-payload_behind None = None
-payload_behind (Some (p, [])) = None
-payload_behind (Some (p, b ∷ rest)) = if b == 32 then paired p (spelled_payload rest) else None
+-- the payload at the front, and what is after it
+unfoldable pub payload_at : List ℕ → Option (Payload × List ℕ)
+payload_at text = if begins (codes "-") text then Some (Empty, drop 1 text) else fields_at (rec_at text)
 
--- the path and the payload that the whole text spells
-unfoldable pub spelled_pair : List ℕ → Option (List NameText × Payload)
-spelled_pair text = payload_behind (path_at text)
+-- the watch that is spelled at the front, and what is after it
+unfoldable pub watch_at : List ℕ → Option (Watch × List ℕ)
+watch_at text = do
+  target_text ← after_word (codes " while ") text
+  target ← path_at target_text
+  cond_text ← after_byte 32 target.1
+  cond ← condition_at cond_text
+  Some (record { target = target.0; cond = cond.0 }, cond.1)
 
--- a command of a path and a payload
-abbrev pub assigning : (List NameText → Payload → Command) → Option (List NameText × Payload) → Option Command
+-- one or more watches that nothing follows
+abbrev pub whole_watches : List Watch × List ℕ → Option Watching
+whole_watches ([], rest) = None
+whole_watches (w ∷ watches, []) = Some (While (w ∷ watches))
+whole_watches (w ∷ watches, b ∷ rest) = None
+
+-- what the whole text says of watches
+unfoldable pub spelled_watching : List ℕ → Option Watching
+spelled_watching [] = Some Stay
+spelled_watching (b ∷ text) = if is_word (codes " free") (b ∷ text) then Some Free else whole_watches (many watch_at MAX_WATCHES (b ∷ text))
+
+-- what a command sets: a payload at a path, and watches
+pub record Assigned : Type 0 where
+  pub path : List NameText
+  pub payload : Payload
+  pub watch : Watching
+
+-- the path, the payload and the watches that the whole text spells
+unfoldable pub spelled_assigned : List ℕ → Option Assigned
+spelled_assigned text = do
+  path ← path_at text
+  payload_text ← after_byte 32 path.1
+  payload ← payload_at payload_text
+  watch ← spelled_watching payload.1
+  Some (record { path = path.0; payload = payload.0; watch = watch })
+
+-- a command of a path, a payload and watches
+abbrev pub assigning : (List NameText → Payload → Watching → Command) → Option Assigned → Option Command
 assigning command None = None
-assigning command (Some (p, x)) = Some (command p x)
+assigning command (Some a) = Some (command a.path a.payload a.watch)
 
 -- a command of a path
 abbrev pub naming : (List NameText → Command) → Option (List NameText) → Option Command
 naming command None = None
 naming command (Some p) = Some (command p)
 
+-- `PATH COND PAYLOAD` and what is said of watches, as a command
+unfoldable pub spelled_cas : List ℕ → Option Command
+spelled_cas text = do
+  path ← path_at text
+  cond_text ← after_byte 32 path.1
+  cond ← condition_at cond_text
+  payload_text ← after_byte 32 cond.1
+  payload ← payload_at payload_text
+  watch ← spelled_watching payload.1
+  Some (Cas path.0 cond.0 payload.0 watch)
+
+-- the pattern that the whole text spells
+abbrev pub whole_pattern : Option (List PatternPart × List ℕ) → Option (List PatternPart)
+whole_pattern None = None
+whole_pattern (Some (parts, [])) = Some parts
+whole_pattern (Some (parts, b ∷ rest)) = None
+
+unfoldable pub spelled_pattern : List ℕ → Option (List PatternPart)
+spelled_pattern text = whole_pattern (pattern_at text)
+
+-- a command of a pattern
+abbrev pub scanning : (List PatternPart → Command) → Option (List PatternPart) → Option Command
+scanning command None = None
+scanning command (Some parts) = Some (command parts)
+
+-- how many nodes the whole text asks for
+unfoldable pub spelled_limit : List ℕ → Option ℕ
+spelled_limit text = do
+  limit ← whole_number (number_at MAX_SHOWN_NODES text)
+  if nat_le 1 limit then Some limit else None
+
+-- `PATTERN C` as a command
+unfoldable pub spelled_many : List ℕ → Option Command
+spelled_many text = do
+  pattern ← pattern_at text
+  limit_text ← after_byte 32 pattern.1
+  limit ← spelled_limit limit_text
+  Some (Many pattern.0 limit)
+
 -- the command that the whole text spells
 unfoldable pub spelled_command : List ℕ → Option Command
 spelled_command text =
-    if begins (codes "put ") text then assigning Put (spelled_pair (drop 4 text))
-    else (if begins (codes "create ") text then assigning Create (spelled_pair (drop 7 text))
-    else (if begins (codes "update ") text then assigning Update (spelled_pair (drop 7 text))
+    if begins (codes "put ") text then assigning Put (spelled_assigned (drop 4 text))
+    else (if begins (codes "create ") text then assigning Create (spelled_assigned (drop 7 text))
+    else (if begins (codes "update ") text then assigning Update (spelled_assigned (drop 7 text))
+    else (if begins (codes "cas ") text then spelled_cas (drop 4 text)
     else (if begins (codes "clear ") text then naming Clear (spelled_path (drop 6 text))
     else (if begins (codes "del ") text then naming Del (spelled_path (drop 4 text))
+    else (if begins (codes "delmany ") text then scanning Delmany (spelled_pattern (drop 8 text))
     else (if begins (codes "get ") text then naming Get (spelled_path (drop 4 text))
-    else None)))))
+    else (if begins (codes "many ") text then spelled_many (drop 5 text)
+    else (if begins (codes "count ") text then scanning Count (spelled_pattern (drop 6 text))
+    else None)))))))))
 
 -- a command to a node
 abbrev pub asked : ℕ → Option Command → Option Line

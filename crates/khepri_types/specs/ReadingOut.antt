@@ -1,7 +1,8 @@
 -- Reading output lines from left to right.
 use Rattle.std.specs.Prelude.{ℕ, ◌-◌, ◌&&◌, nat_le, ◌==◌, if◌then◌else◌, List, [], ◌∷◌, length, drop, Option, Some, None, codes}
-use Rattle.khepri_terms.specs.Many.{◌>>=◌}
+use Rattle.khepri_terms.specs.Many.{many, ◌>>=◌}
 use Rattle.khepri_terms.specs.Numbers.{number_at}
+use Rattle.khepri_terms.specs.Paths.{path_at}
 use Rattle.khepri_types.specs.declared.limits.TheConstants.{MAX_NUMBER}
 use Rattle.khepri_types.specs.declared.reply.Reply.{Reply}
 use Rattle.khepri_types.specs.declared.reply.Reply.TheVariants as reply
@@ -15,28 +16,12 @@ use Rattle.khepri_types.specs.declared.out.Rows.{Rows}
 use Rattle.khepri_types.specs.declared.out.Rows.TheVariants.{Absent}
 use Rattle.khepri_types.specs.declared.out.OutLine.{OutLine}
 use Rattle.khepri_types.specs.declared.out.OutLine.TheVariants as out
-use Rattle.khepri_types.specs.Reading.{begins, is_word, spelled_payload, spelled_command}
-
--- what is after this word at the front
-unfoldable pub after_word : List ℕ → List ℕ → Option (List ℕ)
-after_word word text = if begins word text then Some (drop (length word) text) else None
-
--- the number at the front that this word follows, and what is after the word
-unfoldable pub number_before : List ℕ → List ℕ → Option (ℕ × List ℕ)
-number_before word text = do
-  number ← number_at MAX_NUMBER text
-  rest ← after_word word number.1
-  Some (number.0, rest)
-
--- a number that nothing follows
-abbrev pub whole_number : Option (ℕ × List ℕ) → Option ℕ
-whole_number None = None
-whole_number (Some (n, [])) = Some n
-whole_number (Some (n, b ∷ rest)) = None
-
--- the number that the whole text spells
-unfoldable pub spelled_number : List ℕ → Option ℕ
-spelled_number text = whole_number (number_at MAX_NUMBER text)
+use Rattle.khepri_types.specs.declared.shown.ShownNode.{ShownNode}
+use Rattle.khepri_types.specs.Reading.{begins, is_word, spelled_payload, payload_at, spelled_path, spelled_command}
+use Rattle.khepri_types.specs.ReadingConditions.{after_byte}
+unfoldable pub use Rattle.khepri_types.specs.Words.{after_word}
+pub use Rattle.khepri_types.specs.ReadingNumbers.{whole_number}
+unfoldable pub use Rattle.khepri_types.specs.ReadingNumbers.{number_before, spelled_number}
 
 -- `N K`
 unfoldable pub changed_at : List ℕ → Option Reply
@@ -54,6 +39,41 @@ node_at text = do
   payload ← spelled_payload kids.1
   Some (reply.Node pv.0 cv.0 kids.0 payload)
 
+-- ` PATH PV CV KIDS PAYLOAD` at the front, and what is after it
+unfoldable pub shown_at : List ℕ → Option (ShownNode × List ℕ)
+shown_at text = do
+  place ← after_byte 32 text
+  path ← path_at place
+  numbers ← after_byte 32 path.1
+  pv ← number_before (codes " ") numbers
+  cv ← number_before (codes " ") pv.1
+  kids ← number_before (codes " ") cv.1
+  payload ← payload_at kids.1
+  Some (record { path = path.0; pv = pv.0; cv = cv.0; kids = kids.0; payload = payload.0 }, payload.1)
+
+-- nodes that nothing follows
+abbrev pub whole_nodes : ℕ → List ShownNode × List ℕ → Option Reply
+whole_nodes m (nodes, []) = Some (reply.Nodes m nodes)
+whole_nodes m (nodes, b ∷ rest) = None
+
+-- `M`, and as many nodes as there are
+unfoldable pub nodes_at : List ℕ → Option Reply
+nodes_at text = do
+  count ← number_at MAX_NUMBER text
+  whole_nodes count.0 (many shown_at (length count.1) count.1)
+
+-- `M`
+unfoldable pub count_at : List ℕ → Option Reply
+count_at text = do
+  count ← spelled_number text
+  Some (reply.Count count)
+
+-- the target that the whole text spells, as a refusal
+unfoldable pub while_no : List ℕ → Option Reply
+while_no text = do
+  target ← spelled_path text
+  Some (reply.NoWhile target)
+
 -- the refusal of a command that the whole text spells
 unfoldable pub spelled_no : List ℕ → Option Reply
 spelled_no text =
@@ -61,15 +81,19 @@ spelled_no text =
     else (if is_word (codes "no deep") text then Some reply.NoDeep
     else (if is_word (codes "no exists") text then Some reply.NoExists
     else (if is_word (codes "no absent") text then Some reply.NoAbsent
+    else (if is_word (codes "no mismatch") text then Some reply.NoMismatch
     else (if is_word (codes "no full") text then Some reply.NoFull
-    else None))))
+    else (if begins (codes "no while ") text then while_no (drop 9 text)
+    else None))))))
 
 -- the reply that the whole text spells
 unfoldable pub spelled_reply : List ℕ → Option Reply
 spelled_reply text =
     if begins (codes "ok ") text then changed_at (drop 3 text)
     else (if begins (codes "node ") text then node_at (drop 5 text)
-    else spelled_no text)
+    else (if begins (codes "nodes ") text then nodes_at (drop 6 text)
+    else (if begins (codes "count ") text then count_at (drop 6 text)
+    else spelled_no text)))
 
 -- the command that the whole text spells, as what stands in a `#` line
 unfoldable pub command_entry : List ℕ → Option EntryText

@@ -1,12 +1,13 @@
 -- What has a spelling, with the limits that the grammar sets.
-use Rattle.std.specs.Prelude.{◌≡◌, ℕ, ◌≤◌}
+use Rattle.std.specs.Prelude.{◌≡◌, ℕ, ◌≤◌, List, length}
+use Rattle.std.specs.List.{AllByRecursion}
 use Rattle.khepri_terms.specs.Paths.{IsPath}
 use Rattle.khepri_terms.specs.Records.{IsRec}
-use Rattle.khepri_types.specs.declared.limits.TheConstants.{MAX_NUMBER}
+use Rattle.khepri_types.specs.declared.limits.TheConstants.{MAX_WATCHES, MAX_SHOWN_NODES}
 use Rattle.khepri_types.specs.declared.node.Payload.{Payload}
 use Rattle.khepri_types.specs.declared.node.Payload.TheVariants.{Empty, Fields}
 use Rattle.khepri_types.specs.declared.command.Command.{Command}
-use Rattle.khepri_types.specs.declared.command.Command.TheVariants.{Put, Create, Update, Clear, Del, Get}
+use Rattle.khepri_types.specs.declared.command.Command.TheVariants.{Put, Create, Update, Cas, Clear, Del, Delmany, Get, Many, Count}
 use Rattle.khepri_types.specs.declared.command.Line.{Line}
 use Rattle.khepri_types.specs.declared.command.Line.TheVariants as line
 use Rattle.khepri_types.specs.declared.reply.Reply.{Reply}
@@ -15,10 +16,13 @@ use Rattle.khepri_types.specs.declared.out.EntryText.{EntryText}
 use Rattle.khepri_types.specs.declared.out.EntryText.TheVariants as text
 use Rattle.khepri_types.specs.declared.out.OutLine.{OutLine}
 use Rattle.khepri_types.specs.declared.out.OutLine.TheVariants as out
-
--- a number that may be written
-abbrev pub IsNumber : ℕ → Type 0
-IsNumber n = n ≤ MAX_NUMBER
+use Rattle.khepri_types.specs.declared.shown.ShownNode.{ShownNode}
+use Rattle.khepri_types.specs.declared.watch.Watch.{Watch}
+use Rattle.khepri_types.specs.declared.watch.Watching.{Watching}
+use Rattle.khepri_types.specs.declared.watch.Watching.TheVariants.{Stay, Free, While}
+use Rattle.khepri_types.specs.ConditionTexts.{IsCondition}
+use Rattle.khepri_types.specs.PatternTexts.{IsPattern}
+pub use Rattle.khepri_types.specs.Ranges.{IsNumber}
 
 -- a node that may be named by one digit
 abbrev pub IsNode : ℕ → Type 0
@@ -29,23 +33,55 @@ abbrev pub IsPayload : Payload → Type 0
 IsPayload Empty = Unit {0}
 IsPayload (Fields r) = IsRec r
 
+-- a watch that may be written; its target may have more names than the path of a node
+pub record IsWatch (w : Watch) : Type 0 where
+  pub target : IsPath w.target
+  pub cond : IsCondition w.cond
+
+-- watches that may be written behind a payload
+pub record AreWatches (watches : List Watch) : Type 0 where
+  pub some : 1 ≤ length watches
+  pub few : length watches ≤ MAX_WATCHES
+  pub each : AllByRecursion IsWatch watches
+
+-- what may be written of watches
+abbrev pub IsWatching : Watching → Type 0
+IsWatching Stay = Unit {0}
+IsWatching Free = Unit {0}
+IsWatching (While watches) = AreWatches watches
+
 -- a command that may be written; its path may have more names than the path of a node
 abbrev pub IsCommand : Command → Type 0
-IsCommand (Put p x) = IsPath p × IsPayload x
-IsCommand (Create p x) = IsPath p × IsPayload x
-IsCommand (Update p x) = IsPath p × IsPayload x
+IsCommand (Put p x w) = IsPath p × IsPayload x × IsWatching w
+IsCommand (Create p x w) = IsPath p × IsPayload x × IsWatching w
+IsCommand (Update p x w) = IsPath p × IsPayload x × IsWatching w
+IsCommand (Cas p c x w) = IsPath p × IsCondition c × IsPayload x × IsWatching w
 IsCommand (Clear p) = IsPath p
 IsCommand (Del p) = IsPath p
+IsCommand (Delmany parts) = IsPattern parts
 IsCommand (Get p) = IsPath p
+IsCommand (Many parts limit) = IsPattern parts × (1 ≤ limit) × (limit ≤ MAX_SHOWN_NODES)
+IsCommand (Count parts) = IsPattern parts
 
 -- an input line that may be written
 abbrev pub IsLine : Line → Type 0
 IsLine (line.Command k c) = IsNode k × IsCommand c
 
--- a reply that may be written
+-- a node that may be listed
+pub record IsShownNode (s : ShownNode) : Type 0 where
+  pub path : IsPath s.path
+  pub pv : IsNumber s.pv
+  pub cv : IsNumber s.cv
+  pub kids : IsNumber s.kids
+  pub payload : IsPayload s.payload
+
+-- a reply that may be written; it may list any number of nodes
 abbrev pub IsReply : Reply → Type 0
 IsReply (reply.Changed n k) = IsNumber n × IsNumber k
 IsReply (reply.Node pv cv kids x) = IsNumber pv × IsNumber cv × IsNumber kids × IsPayload x
+IsReply (reply.Nodes m nodes) = IsNumber m × AllByRecursion IsShownNode nodes
+IsReply (reply.Count m) = IsNumber m
+IsReply (reply.NoWhile p) = IsPath p
 IsReply r = Unit {0}
 
 -- what may stand in the `#` line of input line l: a command; where l is 0 also a fire or a noop

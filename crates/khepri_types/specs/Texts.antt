@@ -1,5 +1,6 @@
 -- The one spelling of commands, replies and output lines.
 use Rattle.std.specs.Prelude.{ℕ, List, [], ◌∷◌, ◌++◌, codes}
+use Rattle.std.specs.List.{flat_map}
 use Rattle.std.specs.Fmt.{decimal}
 use Rattle.khepri_terms.specs.Terms.{NameText}
 use Rattle.khepri_terms.specs.Names.{comp_text}
@@ -8,7 +9,7 @@ use Rattle.khepri_terms.specs.Records.{rec_text}
 use Rattle.khepri_types.specs.declared.node.Payload.{Payload}
 use Rattle.khepri_types.specs.declared.node.Payload.TheVariants.{Empty, Fields}
 use Rattle.khepri_types.specs.declared.command.Command.{Command}
-use Rattle.khepri_types.specs.declared.command.Command.TheVariants.{Put, Create, Update, Clear, Del, Get}
+use Rattle.khepri_types.specs.declared.command.Command.TheVariants.{Put, Create, Update, Cas, Clear, Del, Delmany, Get, Many, Count}
 use Rattle.khepri_types.specs.declared.command.Line.{Line}
 use Rattle.khepri_types.specs.declared.command.Line.TheVariants as line
 use Rattle.khepri_types.specs.declared.reply.Reply.{Reply}
@@ -23,24 +24,44 @@ use Rattle.khepri_types.specs.declared.out.Rows.{Rows}
 use Rattle.khepri_types.specs.declared.out.Rows.TheVariants.{Absent}
 use Rattle.khepri_types.specs.declared.out.OutLine.{OutLine}
 use Rattle.khepri_types.specs.declared.out.OutLine.TheVariants as out
+use Rattle.khepri_types.specs.declared.watch.Watch.{Watch}
+use Rattle.khepri_types.specs.declared.watch.Watching.{Watching}
+use Rattle.khepri_types.specs.declared.watch.Watching.TheVariants.{Stay, Free, While}
+use Rattle.khepri_types.specs.declared.shown.ShownNode.{ShownNode}
+use Rattle.khepri_types.specs.ConditionTexts.{condition_text}
+use Rattle.khepri_types.specs.PatternTexts.{pattern_text}
 
 -- `-`, or a record
 unfoldable pub payload_text : Payload → List ℕ
 payload_text Empty = 45 ∷ []
 payload_text (Fields r) = rec_text r
 
--- `PATH PAYLOAD`
-unfoldable pub assigned_text : List NameText → Payload → List ℕ
-assigned_text p x = path_text p ++ 32 ∷ payload_text x
+-- ` while PATH COND`
+unfoldable pub watch_text : Watch → List ℕ
+watch_text w = codes " while " ++ path_text w.target ++ 32 ∷ condition_text w.cond
 
--- the command's word, a space, its path, and its payload where it has one
+-- nothing, ` free`, or the watches one after another
+unfoldable pub watching_text : Watching → List ℕ
+watching_text Stay = []
+watching_text Free = codes " free"
+watching_text (While watches) = flat_map watch_text watches
+
+-- `PATH PAYLOAD`, and what is said of watches
+unfoldable pub assigned_text : List NameText → Payload → Watching → List ℕ
+assigned_text p x w = path_text p ++ 32 ∷ payload_text x ++ watching_text w
+
+-- the command's word, a space, its path or pattern, and what else it has
 unfoldable pub command_text : Command → List ℕ
-command_text (Put p x) = codes "put " ++ assigned_text p x
-command_text (Create p x) = codes "create " ++ assigned_text p x
-command_text (Update p x) = codes "update " ++ assigned_text p x
+command_text (Put p x w) = codes "put " ++ assigned_text p x w
+command_text (Create p x w) = codes "create " ++ assigned_text p x w
+command_text (Update p x w) = codes "update " ++ assigned_text p x w
+command_text (Cas p c x w) = codes "cas " ++ path_text p ++ 32 ∷ condition_text c ++ 32 ∷ payload_text x ++ watching_text w
 command_text (Clear p) = codes "clear " ++ path_text p
 command_text (Del p) = codes "del " ++ path_text p
+command_text (Delmany parts) = codes "delmany " ++ pattern_text parts
 command_text (Get p) = codes "get " ++ path_text p
+command_text (Many parts limit) = codes "many " ++ pattern_text parts ++ 32 ∷ decimal limit
+command_text (Count parts) = codes "count " ++ pattern_text parts
 
 -- `@k COMMAND`
 unfoldable pub line_text : Line → List ℕ
@@ -52,14 +73,22 @@ last_text [] = []
 last_text (n ∷ []) = comp_text n
 last_text (n ∷ m ∷ p) = last_text (m ∷ p)
 
--- `ok N K`, `node PV CV KIDS PAYLOAD`, or `no` and the word of a refusal
+-- ` PATH PV CV KIDS PAYLOAD`
+unfoldable pub shown_text : ShownNode → List ℕ
+shown_text s = 32 ∷ path_text s.path ++ 32 ∷ decimal s.pv ++ 32 ∷ decimal s.cv ++ 32 ∷ decimal s.kids ++ 32 ∷ payload_text s.payload
+
+-- `ok N K`, `node PV CV KIDS PAYLOAD`, `nodes M` and the nodes, `count M`, or `no` and the word of a refusal, and the target where it is `while`
 unfoldable pub reply_text : Reply → List ℕ
 reply_text (reply.Changed n k) = codes "ok " ++ decimal n ++ 32 ∷ decimal k
 reply_text (reply.Node pv cv kids x) = codes "node " ++ decimal pv ++ 32 ∷ decimal cv ++ 32 ∷ decimal kids ++ 32 ∷ payload_text x
+reply_text (reply.Nodes m nodes) = codes "nodes " ++ decimal m ++ flat_map shown_text nodes
+reply_text (reply.Count m) = codes "count " ++ decimal m
 reply_text reply.NoRoot = codes "no root"
 reply_text reply.NoDeep = codes "no deep"
 reply_text reply.NoExists = codes "no exists"
 reply_text reply.NoAbsent = codes "no absent"
+reply_text reply.NoMismatch = codes "no mismatch"
+reply_text (reply.NoWhile p) = codes "no while " ++ path_text p
 reply_text reply.NoFull = codes "no full"
 
 -- a command, `fire s` or `noop`

@@ -31,9 +31,9 @@ same_payload (Fields a) (Fields b) = rec_eq a b
 abbrev pub raised : ℕ → ℕ
 raised n = min (n + 1) (2 ^ 64 - 1)
 
--- a node as it is made
+-- a node as it is made: it watches nothing
 abbrev pub fresh : Payload → Node
-fresh x = record { payload = x; pv = 1; cv = 1 }
+fresh x = record { payload = x; pv = 1; cv = 1; watches = [] }
 
 -- another payload; the version goes up exactly where it differs
 abbrev pub written : Node → Payload → Node

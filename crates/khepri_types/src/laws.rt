@@ -1,14 +1,16 @@
 // Laws of the definitions: each is a function that does nothing, whose contract is the law.
-ghost use Rattle.std.specs.Prelude.{◌≡◌, ◌↔◌, ℕ, ◌+◌, ◌<◌, ◌≤◌, true, false, if◌then◌else◌, IsTrue, List, [], ◌∷◌, length, take, Some, None};
+ghost use Rattle.std.specs.Prelude.{◌≡◌, ◌↔◌, ℕ, ◌+◌, ◌*◌, ◌<◌, ◌≤◌, true, false, if◌then◌else◌, IsTrue, List, [], ◌∷◌, length, take, Some, None};
 ghost use Rattle.std.specs.Option.{option_map};
-ghost use Rattle.std.specs.FinMap.{get, insert, entries};
+ghost use Rattle.std.specs.FinMap.{get, insert, entries, find, is_sorted};
 ghost use Rattle.khepri_terms.specs.Terms.{NameText};
-ghost use Rattle.khepri_types.specs.declared.limits.TheConstants.{MAX_NUMBER, MAX_PATH_NAMES};
+ghost use Rattle.khepri_terms.specs.Order.{path_cmp};
+ghost use Rattle.khepri_types.specs.declared.limits.TheConstants.{MAX_INPUT_BYTES, MAX_PATH_NAMES};
 ghost use Rattle.khepri_types.specs.declared.command.Command.{Command};
 ghost use Rattle.khepri_types.specs.declared.command.Line.{Line};
 ghost use Rattle.khepri_types.specs.declared.node.Node.{Node};
 ghost use Rattle.khepri_types.specs.declared.node.Payload.{Payload};
 ghost use Rattle.khepri_types.specs.declared.node.Payload.TheVariants.{Empty};
+ghost use Rattle.khepri_types.specs.declared.pattern.PatternPart.{PatternPart};
 ghost use Rattle.khepri_types.specs.declared.reply.Reply.TheVariants as reply;
 ghost use Rattle.khepri_types.specs.declared.out.EntryText.{EntryText};
 ghost use Rattle.khepri_types.specs.declared.out.Reason.{Reason};
@@ -16,6 +18,7 @@ ghost use Rattle.khepri_types.specs.declared.out.OutLine.TheVariants as out;
 ghost use Rattle.khepri_types.specs.Paths.{is_under};
 ghost use Rattle.khepri_types.specs.Missing.{IsLongestFront};
 ghost use Rattle.khepri_types.specs.Drop.{loses_child, drop};
+ghost use Rattle.khepri_types.specs.Patterns.{matches, matching_nodes};
 ghost use Rattle.khepri_types.specs.Sizes.{fits};
 ghost use Rattle.khepri_types.specs.Exec.{State, opening_state, passed_over, exec_command};
 ghost use Rattle.khepri_types.specs.Calm.{answer, calm};
@@ -56,6 +59,16 @@ pub fn drop_is_local()
     ensures elsewhere { (T : Tree) (paths : List (List NameText)) (q : List NameText) → is_under paths q ≡ false → get (drop T paths) q ≡ option_map (λ n. if loses_child (entries T) paths q then raised_children n else n) (get T q) }
 {}
 
+/// The nodes that a pattern matches are those of the tree at the paths that it matches, each once, in order of path. The pattern of
+/// the root matches no other path, and no other pattern matches the root.
+pub fn matching_is_exact()
+    ensures nodes { (T : Tree) (parts : List PatternPart) (q : List NameText) → find path_cmp q (matching_nodes parts T) ≡ (if matches parts T q then get T q else None) }
+    ensures ordered { (T : Tree) (parts : List PatternPart) → IsTrue (is_sorted path_cmp (matching_nodes parts T)) }
+    ensures standing { (T : Tree) (parts : List PatternPart) (q : List NameText) → IsTrue (matches parts T q) → IsTrue (stands T q) }
+    ensures root_alone { (T : Tree) (q : List NameText) → IsTrue (matches [] T q) → q ≡ [] }
+    ensures never_root { (T : Tree) (P : PatternPart) (parts : List PatternPart) → matches (P ∷ parts) T [] ≡ false }
+{}
+
 /// The root stands alone at first, and a set payload and a drop that spares the root keep a tree a tree: with each node stand the
 /// nodes above it.
 pub fn trees_stay()
@@ -83,10 +96,11 @@ pub fn positions_rise()
     ensures history { (es : List EntryText) → (run_from opening_state es).position ≡ length es }
 {}
 
-/// After n entries each version is from 1 to 1 + n.
+/// After n entries each payload version is from 1 to 1 + n, and each child-list version from 1 to 1 + 34 n: it rises by one where a
+/// child is made, and by one with each round that takes nodes away, and an entry makes at most 33 nodes.
 pub fn versions_are_small()
     ensures payload { (es : List EntryText) (p : List NameText) (n : Node) → get (run_from opening_state es).tree p ≡ Some n → (1 ≤ n.pv) × (n.pv ≤ 1 + length es) }
-    ensures children { (es : List EntryText) (p : List NameText) (n : Node) → get (run_from opening_state es).tree p ≡ Some n → (1 ≤ n.cv) × (n.cv ≤ 1 + length es) }
+    ensures children { (es : List EntryText) (p : List NameText) (n : Node) → get (run_from opening_state es).tree p ≡ Some n → (1 ≤ n.cv) × (n.cv ≤ 1 + 34 * length es) }
 {}
 
 /// A refused line leaves the state as it was, and a command whose reply says nothing of a change leaves all but the position.
@@ -100,7 +114,7 @@ pub fn lines_have_one_spelling()
     ensures { (text : List ℕ) (l : Line) → (line_at text ≡ Some l) ↔ ((text ≡ line_text l) × IsLine l) }
 {}
 
-/// What a session of one node writes is legal for its input, as long as there are fewer lines than numbers that may be written.
+/// What a session of one node writes is legal for its input, as long as there are no more lines than an input has bytes.
 pub fn calm_is_legal()
-    ensures { (input : List (List ℕ)) → length input < MAX_NUMBER → Legal empty_opening input (calm input) }
+    ensures { (input : List (List ℕ)) → length input ≤ MAX_INPUT_BYTES + 1 → Legal empty_opening input (calm input) }
 {}

@@ -5,13 +5,29 @@
 #![tactic(auto)]
 
 mod command;
+mod compare;
+mod condition;
+mod glob;
 pub mod laws;
 pub mod limits;
 mod node;
 mod out;
+mod pattern;
 mod reply;
+pub mod settling_laws;
+mod shown;
+pub mod spellings;
+mod view;
+mod watch;
 
 pub use command::{Command, Entry, Line};
-pub use node::{Node, Payload};
+pub use compare::Compare;
+pub use condition::Condition;
+pub use glob::{Glob, GlobPiece};
+pub use node::{Node, NodePart, Payload};
 pub use out::{EntryText, OutLine, Reason, Rows, StopWord};
+pub use pattern::{Pattern, PatternPart};
 pub use reply::Reply;
+pub use shown::{ShownNode, ShownNodes};
+pub use view::NodeView;
+pub use watch::{Watch, Watches, Watching};

@@ -12,8 +12,26 @@ pub const MAX_NUMBER: u64 = 9_223_372_036_854_775_807;
 /// Nodes of a tree, the root among them.
 pub const MAX_TREE_NODES: usize = 65_536;
 
-/// Bytes of a tree: the sum over its nodes of the spelled lengths of the last name and the payload.
+/// Bytes of a tree: the sum over its nodes of the spelled lengths of the last name, the payload, and each watch's target and condition.
 pub const MAX_TREE_BYTES: u64 = 16_777_216;
 
 /// Names of a path at which a node may stand.
 pub const MAX_PATH_NAMES: usize = 32;
+
+/// Watches of a node.
+pub const MAX_WATCHES: usize = 16;
+
+/// Conditions of which a condition is made, itself counted.
+pub const MAX_CONDITION_PARTS: usize = 64;
+
+/// How deep conditions may stand in one another; a condition with none in it has nesting 1.
+pub const MAX_CONDITION_NESTING: usize = 16;
+
+/// Parts of a pattern.
+pub const MAX_PATTERN_PARTS: usize = 32;
+
+/// Bytes of the spelling of a pattern.
+pub const MAX_PATTERN_TEXT: usize = 1_024;
+
+/// Nodes that a command may ask to be shown.
+pub const MAX_SHOWN_NODES: u64 = 256;

@@ -1,7 +1,8 @@
 // A node and its payload.
 ghost use Rattle.std.specs.Prelude.{◌≡◌, IfOk};
 
-use khepri_terms::Rec;
+use crate::watch::Watches;
+use khepri_terms::{Path, Rec};
 use std::alloc::AllocError;
 
 /// What a node carries.
@@ -47,4 +48,18 @@ pub struct Node {
     pub pv: u64,
     /// The child-list version: 1 where the node was made, and one more at each round in which a child comes or goes. At 2^64 - 1 it stays.
     pub cv: u64,
+    /// What has to hold for the node to stay. The root has none.
+    pub watches: Watches,
+}
+
+/// A node with its path, as a tree is built from.
+#[derive(Debug, Drop)]
+pub struct NodePart {
+    pub path: Path,
+    pub payload: Payload,
+    /// The payload version.
+    pub pv: u64,
+    /// The child-list version.
+    pub cv: u64,
+    pub watches: Watches,
 }

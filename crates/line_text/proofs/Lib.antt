@@ -1,1 +1,4 @@
 pub mod Grammar
+pub mod Parts
+pub mod Only
+pub mod Stages

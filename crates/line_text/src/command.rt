@@ -1,13 +1,21 @@
 // Commands.
-ghost use Rattle.std.specs.Prelude.{◌≡◌, ◌++◌, length, take, IfOk, OnOk, OnErr, Err, Some, None};
+ghost use Rattle.std.specs.Prelude.{◌≡◌, ◌++◌, ◌∷◌, length, take, IfOk, OnOk, OnErr, Err, Some, None};
 ghost use Rattle.khepri_terms.specs.Paths.{path_text};
-ghost use Rattle.khepri_types.specs.Texts.{assigned_text, command_text};
+ghost use Rattle.khepri_types.specs.PatternTexts.{pattern_text};
+ghost use Rattle.khepri_types.specs.Texts.{payload_text, watching_text, assigned_text, command_text};
 ghost use Rattle.line_text.specs.Grammar.{SpellsCommand, IsNoCommand};
-ghost use Rattle.khepri_types.specs.Reading.{spelled_path, spelled_pair, spelled_command};
+ghost use Rattle.khepri_types.specs.Reading.{spelled_path, Assigned, spelled_assigned, spelled_cas, spelled_pattern, spelled_limit, spelled_many, spelled_command};
 
+use crate::atom::read_mark;
+use crate::condition::read_condition;
+use crate::pattern::{append_pattern, read_pattern};
 use crate::payload::{append_payload, read_payload};
+use crate::watch::{append_asked, append_watching, read_watching};
+use crate::words::append_number;
+use khepri_terms::numbers::read_number;
 use khepri_terms::{Path, TextFault};
-use khepri_types::{Command, Payload};
+use khepri_types::limits::MAX_SHOWN_NODES;
+use khepri_types::{Command, Pattern, Payload, Watching};
 use std::alloc::{AllocError, Global};
 
 /// Appends the spelling of a command; where memory is wanting, nothing.
@@ -29,12 +37,40 @@ pub(crate) fn append_command(cmd: &Command, out: &mut Vec<u8>) -> Result<(), All
     ensures front { take (length out.old.items) out.new.items ≡ out.old.items }
 {
     match cmd {
-        Command::Put { path, payload } => append_pair(b"put ", path, payload, out),
-        Command::Create { path, payload } => append_pair(b"create ", path, payload, out),
-        Command::Update { path, payload } => append_pair(b"update ", path, payload, out),
+        Command::Put {
+            path,
+            payload,
+            watch,
+        } => append_assigned(b"put ", path, payload, watch, out),
+        Command::Create {
+            path,
+            payload,
+            watch,
+        } => append_assigned(b"create ", path, payload, watch, out),
+        Command::Update {
+            path,
+            payload,
+            watch,
+        } => append_assigned(b"update ", path, payload, watch, out),
+        Command::Cas {
+            path,
+            cond,
+            payload,
+            watch,
+        } => {
+            out.extend_from_slice(b"cas ")?;
+            append_asked(path, cond, out)?;
+            append_set(payload, watch, out)
+        }
         Command::Clear { path } => append_path(b"clear ", path, out),
         Command::Del { path } => append_path(b"del ", path, out),
+        Command::Delmany { pattern } => append_scan(b"delmany ", pattern, out),
         Command::Get { path } => append_path(b"get ", path, out),
+        Command::Many { pattern, limit } => {
+            append_scan(b"many ", pattern, out)?;
+            append_number(b" ", *limit, out)
+        }
+        Command::Count { pattern } => append_scan(b"count ", pattern, out),
     }
 }
 
@@ -48,25 +84,46 @@ fn append_path(word: &[u8], path: &Path, out: &mut Vec<u8>) -> Result<(), AllocE
     path.print(out)
 }
 
-// Appends a word, a path and a payload.
+// Appends a word and a pattern.
+#[tactic(auto, using(khepri_terms::proofs::Printing::front_then))]
+fn append_scan(word: &[u8], pattern: &Pattern, out: &mut Vec<u8>) -> Result<(), AllocError>
+    ensures ok { OnOk result (out.new.items ≡ out.old.items ++ word.now ++ pattern_text pattern.now) }
+    ensures front { take (length out.old.items) out.new.items ≡ out.old.items }
+{
+    out.extend_from_slice(word)?;
+    append_pattern(pattern, out)
+}
+
+// Appends a space, a payload, and what is said of watches.
+#[tactic(auto, using(khepri_terms::proofs::Printing::front_then))]
+fn append_set(payload: &Payload, watch: &Watching, out: &mut Vec<u8>) -> Result<(), AllocError>
+    ensures ok { OnOk result (out.new.items ≡ out.old.items ++ (32 ∷ (payload_text payload.now ++ watching_text watch.now))) }
+    ensures front { take (length out.old.items) out.new.items ≡ out.old.items }
+{
+    out.push(b' ')?;
+    append_payload(payload, out)?;
+    append_watching(watch, out)
+}
+
+// Appends a word, a path, a payload, and what is said of watches.
 #[tactic(auto, unfolding(khepri_types::specs::Texts::assigned_text), using(khepri_terms::proofs::Printing::front_then))]
-fn append_pair(
+fn append_assigned(
     word: &[u8],
     path: &Path,
     payload: &Payload,
+    watch: &Watching,
     out: &mut Vec<u8>,
 ) -> Result<(), AllocError>
-    ensures ok { OnOk result (out.new.items ≡ out.old.items ++ word.now ++ assigned_text path.now payload.now) }
+    ensures ok { OnOk result (out.new.items ≡ out.old.items ++ word.now ++ assigned_text path.now payload.now watch.now) }
     ensures front { take (length out.old.items) out.new.items ≡ out.old.items }
 {
     append_path(word, path, out)?;
-    out.push(b' ')?;
-    append_payload(payload, out)
+    append_set(payload, watch, out)
 }
 
-// The path that the whole text spells.
+/// The path that the whole text spells.
 #[tactic(auto, unfolding(khepri_types::specs::Reading::spelled_path))]
-fn read_path(alloc: Global, text: &[u8]) -> Result<Path, TextFault>
+pub(crate) fn read_whole_path(alloc: Global, text: &[u8]) -> Result<Path, TextFault>
     ensures value { IfOk result (λ x. spelled_path text.now ≡ Some x) }
     ensures bad { result ≡ Err TextFault.Bad → spelled_path text.now ≡ None }
 {
@@ -77,20 +134,82 @@ fn read_path(alloc: Global, text: &[u8]) -> Result<Path, TextFault>
     }
 }
 
-// The path and the payload that the whole text spells.
-#[tactic(auto, unfolding(khepri_types::specs::Reading::spelled_pair))]
-fn read_pair(alloc: Global, text: &[u8]) -> Result<(Path, Payload), TextFault>
-    ensures value { IfOk result (λ x. spelled_pair text.now ≡ Some (x.0, x.1)) }
-    ensures bad { result ≡ Err TextFault.Bad → spelled_pair text.now ≡ None }
+// The pattern that the whole text spells.
+#[tactic(auto, unfolding(khepri_types::specs::Reading::spelled_pattern))]
+fn read_whole_pattern(alloc: Global, text: &[u8]) -> Result<Pattern, TextFault>
+    ensures value { IfOk result (λ x. spelled_pattern text.now ≡ Some x) }
+    ensures bad { result ≡ Err TextFault.Bad → spelled_pattern text.now ≡ None }
+{
+    let (pattern, rest) = read_pattern(alloc, text)?;
+    match rest {
+        [] => Ok(pattern),
+        [_, ..] => Err(TextFault::Bad),
+    }
+}
+
+// The path, the payload and the watches that the whole text spells.
+#[tactic(auto, unfolding(khepri_types::specs::Reading::spelled_assigned))]
+fn read_assigned(alloc: Global, text: &[u8]) -> Result<(Path, Payload, Watching), TextFault>
+    ensures value { IfOk result (λ x. spelled_assigned text.now ≡ Some (record { path = x.0; payload = x.1; watch = x.2 })) }
+    ensures bad { result ≡ Err TextFault.Bad → spelled_assigned text.now ≡ None }
 {
     let (path, rest) = Path::read(alloc, text)?;
+    let rest = read_mark(rest, b' ')?;
+    let (payload, rest) = read_payload(alloc, rest)?;
+    let watch = read_watching(alloc, rest)?;
+    Ok((path, payload, watch))
+}
+
+// Behind `cas `.
+#[tactic(auto, unfolding(khepri_types::specs::Reading::spelled_cas))]
+fn read_cas(alloc: Global, text: &[u8]) -> Result<Command, TextFault>
+    ensures value { IfOk result (λ x. spelled_cas text.now ≡ Some x) }
+    ensures bad { result ≡ Err TextFault.Bad → spelled_cas text.now ≡ None }
+{
+    let (path, rest) = Path::read(alloc, text)?;
+    let rest = read_mark(rest, b' ')?;
+    let (cond, rest) = read_condition(alloc, rest)?;
+    let rest = read_mark(rest, b' ')?;
+    let (payload, rest) = read_payload(alloc, rest)?;
+    let watch = read_watching(alloc, rest)?;
+    Ok(Command::Cas {
+        path,
+        cond,
+        payload,
+        watch,
+    })
+}
+
+// How many nodes the whole text asks for.
+#[tactic(auto, unfolding(khepri_types::specs::Reading::spelled_limit))]
+fn read_limit(text: &[u8]) -> Result<u64, TextFault>
+    ensures value { IfOk result (λ n. spelled_limit text.now ≡ Some n) }
+    ensures bad { result ≡ Err TextFault.Bad → spelled_limit text.now ≡ None }
+{
+    let Some((limit, rest)) = read_number(text, MAX_SHOWN_NODES) else {
+        return Err(TextFault::Bad);
+    };
     match rest {
-        [b' ', rest @ ..] => {
-            let payload = read_payload(alloc, rest)?;
-            Ok((path, payload))
+        [] => {
+            if limit >= 1 {
+                return Ok(limit);
+            }
+            Err(TextFault::Bad)
         }
-        _ => Err(TextFault::Bad),
+        [_, ..] => Err(TextFault::Bad),
     }
+}
+
+// Behind `many `.
+#[tactic(auto, unfolding(khepri_types::specs::Reading::spelled_many))]
+fn read_many(alloc: Global, text: &[u8]) -> Result<Command, TextFault>
+    ensures value { IfOk result (λ x. spelled_many text.now ≡ Some x) }
+    ensures bad { result ≡ Err TextFault.Bad → spelled_many text.now ≡ None }
+{
+    let (pattern, rest) = read_pattern(alloc, text)?;
+    let rest = read_mark(rest, b' ')?;
+    let limit = read_limit(rest)?;
+    Ok(Command::Many { pattern, limit })
 }
 
 /// The command that the whole text spells. `Bad` says that it spells none.
@@ -111,28 +230,54 @@ pub(crate) fn match_command(alloc: Global, text: &[u8]) -> Result<Command, TextF
     ensures bad { result ≡ Err TextFault.Bad → spelled_command text.now ≡ None }
 {
     if let Some(rest) = text.strip_prefix(b"put ") {
-        let (path, payload) = read_pair(alloc, rest)?;
-        return Ok(Command::Put { path, payload });
+        let (path, payload, watch) = read_assigned(alloc, rest)?;
+        return Ok(Command::Put {
+            path,
+            payload,
+            watch,
+        });
     }
     if let Some(rest) = text.strip_prefix(b"create ") {
-        let (path, payload) = read_pair(alloc, rest)?;
-        return Ok(Command::Create { path, payload });
+        let (path, payload, watch) = read_assigned(alloc, rest)?;
+        return Ok(Command::Create {
+            path,
+            payload,
+            watch,
+        });
     }
     if let Some(rest) = text.strip_prefix(b"update ") {
-        let (path, payload) = read_pair(alloc, rest)?;
-        return Ok(Command::Update { path, payload });
+        let (path, payload, watch) = read_assigned(alloc, rest)?;
+        return Ok(Command::Update {
+            path,
+            payload,
+            watch,
+        });
+    }
+    if let Some(rest) = text.strip_prefix(b"cas ") {
+        return read_cas(alloc, rest);
     }
     if let Some(rest) = text.strip_prefix(b"clear ") {
-        let path = read_path(alloc, rest)?;
+        let path = read_whole_path(alloc, rest)?;
         return Ok(Command::Clear { path });
     }
     if let Some(rest) = text.strip_prefix(b"del ") {
-        let path = read_path(alloc, rest)?;
+        let path = read_whole_path(alloc, rest)?;
         return Ok(Command::Del { path });
     }
+    if let Some(rest) = text.strip_prefix(b"delmany ") {
+        let pattern = read_whole_pattern(alloc, rest)?;
+        return Ok(Command::Delmany { pattern });
+    }
     if let Some(rest) = text.strip_prefix(b"get ") {
-        let path = read_path(alloc, rest)?;
+        let path = read_whole_path(alloc, rest)?;
         return Ok(Command::Get { path });
+    }
+    if let Some(rest) = text.strip_prefix(b"many ") {
+        return read_many(alloc, rest);
+    }
+    if let Some(rest) = text.strip_prefix(b"count ") {
+        let pattern = read_whole_pattern(alloc, rest)?;
+        return Ok(Command::Count { pattern });
     }
     Err(TextFault::Bad)
 }

@@ -1,7 +1,7 @@
 // Payloads.
 ghost use Rattle.std.specs.Prelude.{◌≡◌, ◌++◌, length, take, IfOk, OnOk, Err, Some, None};
 ghost use Rattle.khepri_types.specs.Texts.{payload_text};
-ghost use Rattle.khepri_types.specs.Reading.{spelled_payload};
+ghost use Rattle.khepri_types.specs.Reading.{spelled_payload, payload_at};
 
 use crate::words::is_word;
 use khepri_terms::{Rec, TextFault};
@@ -20,9 +20,22 @@ pub(crate) fn append_payload(payload: &Payload, out: &mut Vec<u8>) -> Result<(),
     Ok(())
 }
 
+/// The payload at the front, and what is after it.
+#[tactic(auto, unfolding(khepri_types::specs::Reading::payload_at))]
+pub(crate) fn read_payload(alloc: Global, text: &[u8]) -> Result<(Payload, &[u8]), TextFault>
+    ensures value { IfOk result (λ x. payload_at text.now ≡ Some (x.0, x.1.now)) }
+    ensures bad { result ≡ Err TextFault.Bad → payload_at text.now ≡ None }
+{
+    if let Some(rest) = text.strip_prefix(b"-") {
+        return Ok((Payload::Empty, rest));
+    }
+    let (rec, rest) = Rec::read(alloc, text)?;
+    Ok((Payload::Fields(rec), rest))
+}
+
 /// The payload that the whole text spells.
 #[tactic(auto, unfolding(khepri_types::specs::Reading::spelled_payload))]
-pub(crate) fn read_payload(alloc: Global, text: &[u8]) -> Result<Payload, TextFault>
+pub(crate) fn read_whole_payload(alloc: Global, text: &[u8]) -> Result<Payload, TextFault>
     ensures value { IfOk result (λ x. spelled_payload text.now ≡ Some x) }
     ensures bad { result ≡ Err TextFault.Bad → spelled_payload text.now ≡ None }
 {

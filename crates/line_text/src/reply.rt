@@ -1,10 +1,11 @@
 // Replies.
-ghost use Rattle.std.specs.Prelude.{◌≡◌, ◌++◌, ◌∷◌, length, take, codes, IfOk, OnOk, OnErr, MatchOption, Err, Some, None};
-ghost use Rattle.std.specs.Fmt.{decimal};
+ghost use Rattle.std.specs.Prelude.{◌≡◌, ◌++◌, length, take, IfOk, OnOk, OnErr, MatchOption, Err, Some, None};
 ghost use Rattle.khepri_types.specs.Texts.{reply_text};
-ghost use Rattle.khepri_types.specs.ReadingOut.{changed_at, node_at, spelled_no, spelled_reply};
+ghost use Rattle.khepri_types.specs.ReadingOut.{changed_at, node_at, count_at, while_no, spelled_no, spelled_reply};
 
-use crate::payload::{append_payload, read_payload};
+use crate::command::read_whole_path;
+use crate::payload::read_whole_payload;
+use crate::shown::{append_content, append_shown_nodes, read_nodes};
 use crate::words::{append_number, is_word, read_number_before, read_whole_number};
 use khepri_terms::TextFault;
 use khepri_types::Reply;
@@ -38,28 +39,23 @@ pub(crate) fn append_reply(reply: &Reply, out: &mut Vec<u8>) -> Result<(), Alloc
             cv,
             kids,
             payload,
-        } => {
-            append_node_numbers(*pv, *cv, *kids, out)?;
-            out.push(b' ')?;
-            append_payload(payload, out)
+        } => append_content(b"node ", *pv, *cv, *kids, payload, out),
+        Reply::Nodes { count, nodes } => {
+            append_number(b"nodes ", *count, out)?;
+            append_shown_nodes(nodes.as_slice(), out)
         }
+        Reply::Count { count } => append_number(b"count ", *count, out),
         Reply::NoRoot => out.extend_from_slice(b"no root"),
         Reply::NoDeep => out.extend_from_slice(b"no deep"),
         Reply::NoExists => out.extend_from_slice(b"no exists"),
         Reply::NoAbsent => out.extend_from_slice(b"no absent"),
+        Reply::NoMismatch => out.extend_from_slice(b"no mismatch"),
+        Reply::NoWhile { target } => {
+            out.extend_from_slice(b"no while ")?;
+            target.print(out)
+        }
         Reply::NoFull => out.extend_from_slice(b"no full"),
     }
-}
-
-// Appends `node` and its three numbers.
-#[tactic(auto, using(khepri_terms::proofs::Printing::front_then))]
-fn append_node_numbers(pv: u64, cv: u64, kids: u64, out: &mut Vec<u8>) -> Result<(), AllocError>
-    ensures ok { OnOk result (out.new.items ≡ out.old.items ++ codes "node " ++ decimal pv ++ 32 ∷ decimal cv ++ 32 ∷ decimal kids) }
-    ensures front { take (length out.old.items) out.new.items ≡ out.old.items }
-{
-    append_number(b"node ", pv, out)?;
-    append_number(b" ", cv, out)?;
-    append_number(b" ", kids, out)
 }
 
 // Behind `ok `.
@@ -87,7 +83,7 @@ fn read_node(alloc: Global, text: &[u8]) -> Result<Reply, TextFault>
     let Some((kids, rest)) = read_number_before(rest, b" ") else {
         return Err(TextFault::Bad);
     };
-    let payload = read_payload(alloc, rest)?;
+    let payload = read_whole_payload(alloc, rest)?;
     Ok(Reply::Node {
         pv,
         cv,
@@ -96,27 +92,53 @@ fn read_node(alloc: Global, text: &[u8]) -> Result<Reply, TextFault>
     })
 }
 
+// Behind `count `.
+#[tactic(auto, unfolding(khepri_types::specs::ReadingOut::count_at))]
+fn read_count(text: &[u8]) -> Option<Reply>
+    ensures { MatchOption result (count_at text.now ≡ None) (λ x. count_at text.now ≡ Some x) }
+{
+    let count = read_whole_number(text)?;
+    Some(Reply::Count { count })
+}
+
+// Behind `no while `.
+#[tactic(auto, unfolding(khepri_types::specs::ReadingOut::while_no))]
+fn read_no_while(alloc: Global, text: &[u8]) -> Result<Reply, TextFault>
+    ensures value { IfOk result (λ x. while_no text.now ≡ Some x) }
+    ensures bad { result ≡ Err TextFault.Bad → while_no text.now ≡ None }
+{
+    let target = read_whole_path(alloc, text)?;
+    Ok(Reply::NoWhile { target })
+}
+
 // The refusal that the whole text spells.
 #[tactic(auto, unfolding(khepri_types::specs::ReadingOut::spelled_no))]
-fn read_no(text: &[u8]) -> Option<Reply>
-    ensures { MatchOption result (spelled_no text.now ≡ None) (λ x. spelled_no text.now ≡ Some x) }
+fn read_no(alloc: Global, text: &[u8]) -> Result<Reply, TextFault>
+    ensures value { IfOk result (λ x. spelled_no text.now ≡ Some x) }
+    ensures bad { result ≡ Err TextFault.Bad → spelled_no text.now ≡ None }
 {
     if is_word(text, b"no root") {
-        return Some(Reply::NoRoot);
+        return Ok(Reply::NoRoot);
     }
     if is_word(text, b"no deep") {
-        return Some(Reply::NoDeep);
+        return Ok(Reply::NoDeep);
     }
     if is_word(text, b"no exists") {
-        return Some(Reply::NoExists);
+        return Ok(Reply::NoExists);
     }
     if is_word(text, b"no absent") {
-        return Some(Reply::NoAbsent);
+        return Ok(Reply::NoAbsent);
+    }
+    if is_word(text, b"no mismatch") {
+        return Ok(Reply::NoMismatch);
     }
     if is_word(text, b"no full") {
-        return Some(Reply::NoFull);
+        return Ok(Reply::NoFull);
     }
-    None
+    if let Some(rest) = text.strip_prefix(b"no while ") {
+        return read_no_while(alloc, rest);
+    }
+    Err(TextFault::Bad)
 }
 
 /// The reply that the whole text spells.
@@ -131,5 +153,11 @@ pub(crate) fn read_reply(alloc: Global, text: &[u8]) -> Result<Reply, TextFault>
     if let Some(rest) = text.strip_prefix(b"node ") {
         return read_node(alloc, rest);
     }
-    read_no(text).ok_or(TextFault::Bad)
+    if let Some(rest) = text.strip_prefix(b"nodes ") {
+        return read_nodes(alloc, rest);
+    }
+    if let Some(rest) = text.strip_prefix(b"count ") {
+        return read_count(rest).ok_or(TextFault::Bad);
+    }
+    read_no(alloc, text)
 }

@@ -1,11 +1,11 @@
 use khepri_terms::TextFault;
-use khepri_types::{Line, Payload, Reply};
+use khepri_types::{Command, Line, Payload, Reply, ShownNodes};
 use line_text::{print_command, print_out, print_reply, read_command, read_line, read_out};
 use std::alloc::{AllocError, Global};
 use std::test::Fail;
 
 // Input lines.
-const LINES: [&str; 19] = [
+const LINES: [&str; 30] = [
     "@1 put / -",
     "@9 put / {}",
     "@1 put /a/:b/%2E {a=1,b='x%20y}",
@@ -25,10 +25,21 @@ const LINES: [&str; 19] = [
     "@1 get /1/1/1/1/1/1/1/1/1/1/1/1/1/1/1/1/1/1/1/1/1/1/1/1/1/1/1/1/1/1/1/1/1",
     "@1 put /1/1/1/1/1/1/1/1/1/1/1/1/1/1/1/1/1/1/1/1/1/1/1/1/1/1/1/1/1/1/1/1/1 -",
     "@1 create /%00%FF/~ {key='%00%FF}",
+    "@1 put /a - free",
+    "@1 create /a {b=1} while / exists",
+    "@1 update /a - while /b absent while /:c/d pv(ge,3)",
+    "@1 put /a - while / any() while / any() while / any() while / any() while / any() while / any() while / any() while / any() while / any() while / any() while / any() while / any() while / any() while / any() while / any() while / any()",
+    "@1 cas /a any(absent,not(field(k,lt,'x%20y))) {k=2} free",
+    "@1 cas / all() -",
+    "@1 delmany /a/*/**/[data]",
+    "@1 delmany /",
+    "@1 many /** 256",
+    "@1 many /:a/[name(:b*.)] 1",
+    "@1 count /*",
 ];
 
 // What is no input line.
-const NO_LINES: [&str; 42] = [
+const NO_LINES: [&str; 58] = [
     "",
     "@",
     "@1",
@@ -71,10 +82,26 @@ const NO_LINES: [&str; 42] = [
     "@1 noop",
     "@1 fire 1",
     "!beat 1",
+    "@1 put /a - free ",
+    "@1 put /a -free",
+    "@1 put /a - free while / exists",
+    "@1 put /a - while / exists free",
+    "@1 put /a - while /",
+    "@1 put /a - while / any() while / any() while / any() while / any() while / any() while / any() while / any() while / any() while / any() while / any() while / any() while / any() while / any() while / any() while / any() while / any() while / any()",
+    "@1 clear /a free",
+    "@1 cas /a -",
+    "@1 cas /a exists",
+    "@1 delmany /***",
+    "@1 many / 0",
+    "@1 many / 257",
+    "@1 many / 01",
+    "@1 many /",
+    "@1 count / 1",
+    "@1 count /[exists",
 ];
 
 // Output lines.
-const OUT_LINES: [&str; 38] = [
+const OUT_LINES: [&str; 47] = [
     "# 1 @1 put /a {}",
     "# 2 @0 put /a -",
     "# 3 @0 noop",
@@ -113,10 +140,19 @@ const OUT_LINES: [&str; 38] = [
     "# 10 @10 del /",
     "= 10 20 ok 1000000 0",
     "? 0 0",
+    "# 1 @1 put /a - while /b exists",
+    "# 2 @0 cas / absent - free",
+    "= 1 2 nodes 0",
+    "= 1 2 nodes 2 / 1 1 1 - /a 2 1 0 {x='}",
+    "= 1 2 nodes 9 /a 1 1 0 -",
+    "= 1 2 count 7",
+    "= 1 2 no mismatch",
+    "= 1 2 no while /",
+    "= 1 2 no while /a/:b",
 ];
 
 // What is no output line.
-const NO_OUT_LINES: [&str; 44] = [
+const NO_OUT_LINES: [&str; 54] = [
     "",
     "#",
     "# ",
@@ -161,6 +197,16 @@ const NO_OUT_LINES: [&str; 44] = [
     "! 1 leads 1 ",
     "! 1 stopped",
     "! 1 stopped full",
+    "= 1 2 nodes",
+    "= 1 2 nodes 1 ",
+    "= 1 2 nodes 1 / 1 1 1",
+    "= 1 2 nodes 1 / 1 1 1 - ",
+    "= 1 2 nodes 1 / 1 1 1 -/a 1 1 1 -",
+    "= 1 2 count",
+    "= 1 2 count 1 1",
+    "= 1 2 no while",
+    "= 1 2 no while ",
+    "= 1 2 no while /a /b",
 ];
 
 // What is read of a text, spelled again, or `!` where it is refused.
@@ -171,16 +217,18 @@ fn refused(alloc: Global, fault: TextFault) -> Result<Vec<u8>, AllocError> {
     }
 }
 
+fn asked_text(alloc: Global, node: u8, cmd: &Command) -> Result<Vec<u8>, AllocError> {
+    let mut out = Vec::new(alloc);
+    out.push(b'@')?;
+    out.push(b'0'.saturating_add(node))?;
+    out.push(b' ')?;
+    print_command(cmd, &mut out)?;
+    Ok(out)
+}
+
 fn line_again(alloc: Global, text: &[u8]) -> Result<Vec<u8>, AllocError> {
     match read_line(alloc, text) {
-        Ok(Line::Command { node, cmd }) => {
-            let mut out = Vec::new(alloc);
-            out.push(b'@')?;
-            out.push(b'0'.saturating_add(node))?;
-            out.push(b' ')?;
-            print_command(&cmd, &mut out)?;
-            Ok(out)
-        }
+        Ok(Line::Command { node, cmd }) => asked_text(alloc, node, &cmd),
         Err(fault) => refused(alloc, fault),
     }
 }
@@ -246,6 +294,13 @@ fn lines_out(rt: HostRuntime) -> Result<(), Fail> {
                 payload: Payload::Empty,
             },
             "node 1 2 3 -",
+        ),
+        (
+            Reply::Nodes {
+                count: 5,
+                nodes: ShownNodes::none(alloc),
+            },
+            "nodes 5",
         ),
         (Reply::NoFull, "no full"),
     ] {

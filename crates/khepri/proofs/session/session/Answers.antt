@@ -8,7 +8,6 @@ use Rattle.line_io.proofs.Appending.{Appends-none}
 use Rattle.line_io.specs.Shown.{given_next}
 use Rattle.khepri_types.specs.Calm.{ended, text_of}
 use Rattle.khepri_types.specs.declared.out.OutLine.TheVariants as out
-use Rattle.khepri_machine.specs.Machine.{state_of}
 use Rattle.khepri.specs.Told.{told, told_text}
 use Rattle.khepri.specs.declared.status.Status.TheVariants as status
 use Rattle.khepri.proofs.Telling.{told_text-none}
@@ -52,7 +51,7 @@ lines-init g c =
     let text : c.as_slice.result.now ≡ told_text [] =
     text_is c.as_slice.result.now c.put_out.new.out.items c.new-out.result.items (ended (out.Leads 1 1)) c.as_slice.ensures.value (ok_part c.put_out.result (sym c.is_err.ensures.value ∙ c.if-is_err.false) c.put_out.ensures) c.new-out.ensures.items ∙ sym told_text-none in
     record {
-      amid = amid-none (g.S.Source.left c.args.source.now) (g.K.Sink.held c.args.sink.now) (g.K.Sink.held c.put_all.new.sink) c.in-Ok.lines (state_of c.in-Ok-fresh.machine) c.as_slice.result.now c.in-Ok.ensures c.in-Ok-fresh.ensures text
+      amid = amid-none (g.S.Source.left c.args.source.now) (g.K.Sink.held c.args.sink.now) (g.K.Sink.held c.put_all.new.sink) c.in-Ok.lines c.in-Ok-fresh.machine c.as_slice.result.now c.in-Ok.ensures c.in-Ok-fresh.ensures text
           (ok_part c.put_all.result (sym c.is_err-2.ensures.value ∙ c.if-is_err-2.false) c.put_all.ensures.ok);
       source = omega arith;
       sink = c.put_all.ensures.later;
@@ -60,7 +59,7 @@ lines-init g c =
 
 pub returns-in-Err-ReadFault-clause-session : goal.returns-in-Err-ReadFault-clause-session
 returns-in-Err-ReadFault-clause-session g c =
-    on_source_fault _ _ (g.S.Source.left c.lines.source) _ _ c.lines.lines c.next.new.self c.lines.number (state_of c.lines.machine) (g.S.Source.faults c.lines.source) (g.S.Source.faults c.next.new.source) c.lines.invariant.amid
+    on_source_fault _ _ (g.S.Source.left c.lines.source) _ _ c.lines.lines c.next.new.self c.lines.number c.lines.machine (g.S.Source.faults c.lines.source) (g.S.Source.faults c.next.new.source) c.lines.invariant.amid
     (subst (λ (f : LineFault). Call c.lines.lines c.next.new.self (g.S.Source.left c.lines.source) (g.S.Source.left c.next.new.source) (g.S.Source.faults c.lines.source) (g.S.Source.faults c.next.new.source) (Err f)) c.in-Err-ReadFault.field-0-is c.in-Err-ReadFault.ensures.call)
 
 pub returns-in-Err-ReadFault-clause-source_fault : goal.returns-in-Err-ReadFault-clause-source_fault
@@ -70,17 +69,17 @@ returns-in-Err-ReadFault-clause-source_fault g c = λ _.
 
 pub returns-in-Err-InputLong-clause-session : goal.returns-in-Err-InputLong-clause-session
 returns-in-Err-InputLong-clause-session g c =
-    on_input_long _ _ (g.S.Source.left c.lines.source) _ _ c.lines.lines c.next.new.self c.lines.number (state_of c.lines.machine) (g.S.Source.faults c.lines.source) (g.S.Source.faults c.next.new.source) c.lines.invariant.amid
+    on_input_long _ _ (g.S.Source.left c.lines.source) _ _ c.lines.lines c.next.new.self c.lines.number c.lines.machine (g.S.Source.faults c.lines.source) (g.S.Source.faults c.next.new.source) c.lines.invariant.amid
     (subst (λ (f : LineFault). Call c.lines.lines c.next.new.self (g.S.Source.left c.lines.source) (g.S.Source.left c.next.new.source) (g.S.Source.faults c.lines.source) (g.S.Source.faults c.next.new.source) (Err f)) c.in-Err-InputLong.field-0-is c.in-Err-InputLong.ensures.call)
 
 pub returns-in-Err-NoMemory-clause-session : goal.returns-in-Err-NoMemory-clause-session
 returns-in-Err-NoMemory-clause-session g c =
-    on_no_memory _ _ (g.S.Source.left c.lines.source) _ _ c.lines.lines c.next.new.self c.lines.number (state_of c.lines.machine) (g.S.Source.faults c.lines.source) (g.S.Source.faults c.next.new.source) c.lines.invariant.amid
+    on_no_memory _ _ (g.S.Source.left c.lines.source) _ _ c.lines.lines c.next.new.self c.lines.number c.lines.machine (g.S.Source.faults c.lines.source) (g.S.Source.faults c.next.new.source) c.lines.invariant.amid
     (subst (λ (f : LineFault). Call c.lines.lines c.next.new.self (g.S.Source.left c.lines.source) (g.S.Source.left c.next.new.source) (g.S.Source.faults c.lines.source) (g.S.Source.faults c.next.new.source) (Err f)) c.in-Err-NoMemory.field-0-is c.in-Err-NoMemory.ensures.call)
 
 pub returns-in-End-clause-session : goal.returns-in-End-clause-session
 returns-in-End-clause-session g c =
-    on_end _ _ (g.S.Source.left c.lines.source) _ _ c.lines.lines c.next.new.self c.lines.number (state_of c.lines.machine) (g.S.Source.faults c.lines.source) (g.S.Source.faults c.next.new.source) c.lines.invariant.amid
+    on_end _ _ (g.S.Source.left c.lines.source) _ _ c.lines.lines c.next.new.self c.lines.number c.lines.machine (g.S.Source.faults c.lines.source) (g.S.Source.faults c.next.new.source) c.lines.invariant.amid
     (subst (λ (n : Next). Call c.lines.lines c.next.new.self (g.S.Source.left c.lines.source) (g.S.Source.left c.next.new.source) (g.S.Source.faults c.lines.source) (g.S.Source.faults c.next.new.source) (Ok n)) c.in-End.is c.in-Ok-next.ensures.call)
 
 pub answer-requires : goal.answer-requires
@@ -97,7 +96,7 @@ pub returns-then-is_err-4 : goal.returns-then-is_err-4
 returns-then-is_err-4 g c =
     let a = asked _ _ _ _ _ _ _ _ _ _ _ _ c.lines.invariant.amid c.in-Ok-next.ensures.call c.in_default.not-End in
     let told_is = ok_part c.answer.result (sym c.is_err-in-lines.ensures.value ∙ c.if-is_err-3.false) c.answer.ensures.text in
-    let text = text_is c.as_slice-in-lines.result.now c.answer.new.out.items c.clear.new.self.items (text_of (told c.lines.number (state_of c.lines.machine) (given_next c.in-Ok-next.next))) c.as_slice-in-lines.ensures.value told_is c.clear.ensures.items in
+    let text = text_is c.as_slice-in-lines.result.now c.answer.new.out.items c.clear.new.self.items (text_of (told c.lines.number c.lines.machine (given_next c.in-Ok-next.next))) c.as_slice-in-lines.ensures.value told_is c.clear.ensures.items in
     let result = sym c.is_err-in-lines-2.ensures.value ∙ c.if-is_err-4.true in
     record {
       session = on_sink_fault _ _ _ _ _ _ _ _ _ _ a text (err_part c.put_all-in-lines.result result c.put_all-in-lines.ensures.err);
@@ -115,7 +114,7 @@ lines-preserved g c =
     let a = asked _ _ _ _ _ _ _ _ _ _ _ _ c.lines.invariant.amid c.in-Ok-next.ensures.call c.in_default.not-End in
     let ok = sym c.is_err-in-lines.ensures.value ∙ c.if-is_err-3.false in
     let told_is = ok_part c.answer.result ok c.answer.ensures.text in
-    let text = text_is c.as_slice-in-lines.result.now c.answer.new.out.items c.clear.new.self.items (text_of (told c.lines.number (state_of c.lines.machine) (given_next c.in-Ok-next.next))) c.as_slice-in-lines.ensures.value told_is c.clear.ensures.items in
+    let text = text_is c.as_slice-in-lines.result.now c.answer.new.out.items c.clear.new.self.items (text_of (told c.lines.number c.lines.machine (given_next c.in-Ok-next.next))) c.as_slice-in-lines.ensures.value told_is c.clear.ensures.items in
     record {
       amid = answered _ _ _ _ _ _ _ _ _ _ _ a text (ok_part c.answer.result ok c.answer.ensures.state) (ok_part c.put_all-in-lines.result (sym c.is_err-in-lines-2.ensures.value ∙ c.if-is_err-4.false) c.put_all-in-lines.ensures.ok);
       source = omega (arith, c.lines.invariant.source, c.next.ensures.later);

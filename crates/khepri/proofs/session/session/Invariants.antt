@@ -1,12 +1,11 @@
 use Rattle.std.proofs.Common.{◌≤◌}
 use Rattle.line_io.specs.Reading.{bytes_ahead}
-use Rattle.khepri_machine.specs.Machine.{state_of}
 use Rattle.khepri.proofs.Turns.{Amid}
 use Rattle.khepri.proofs.session.session.Given as goal
 
 abbrev pub invariant-lines : goal.invariant-lines
 invariant-lines g l = record {
-  amid : Amid (g.S.Source.left l.fn.source) (g.K.Sink.held l.fn.sink) (g.S.Source.left l.source) (g.K.Sink.held l.sink) l.lines l.number (state_of l.machine);
+  amid : Amid (g.S.Source.left l.fn.source) (g.K.Sink.held l.fn.sink) (g.S.Source.left l.source) (g.K.Sink.held l.sink) l.lines l.number l.machine;
   source : g.S.Source.faults l.fn.source ≤ g.S.Source.faults l.source;
   sink : g.K.Sink.faults l.fn.sink ≤ g.K.Sink.faults l.sink;
 }

@@ -1,5 +1,6 @@
-use Rattle.khepri_types.proofs.Depths.{shallow-history}
+use Rattle.khepri_types.specs.Exec.{opening_state}
+use Rattle.khepri_types.proofs.Short.{short-opening, short-run}
 use Rattle.khepri_types.proofs.laws.paths_stay_short.Goals as goal
 
 pub returns : goal.returns
-returns c = shallow-history
+returns c = λ es. short-run es opening_state short-opening

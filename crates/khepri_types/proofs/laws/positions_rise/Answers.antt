@@ -1,5 +1,5 @@
 use Rattle.khepri_types.proofs.After.{position-after}
-use Rattle.khepri_types.proofs.Depths.{position-history}
+use Rattle.khepri_types.proofs.Positions.{position-history}
 use Rattle.khepri_types.proofs.laws.positions_rise.Goals as goal
 
 pub returns-clause-command : goal.returns-clause-command

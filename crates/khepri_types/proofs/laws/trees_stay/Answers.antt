@@ -1,5 +1,6 @@
 use Rattle.khepri_types.specs.Exec.{opening_state}
-use Rattle.khepri_types.proofs.Standing.{tree-opening, tree-set, tree-drop, tree-run}
+use Rattle.khepri_types.proofs.Standing.{tree-opening, tree-set, tree-drop}
+use Rattle.khepri_types.proofs.Staying.{tree-run}
 use Rattle.khepri_types.proofs.laws.trees_stay.Goals as goal
 
 pub returns-clause-opening : goal.returns-clause-opening

@@ -1,0 +1,103 @@
+-- Which nodes of a tree fail, along a walk over all of them.
+use Rattle.std.proofs.Common.{◌≡◌, ℕ, ◌+◌, ◌<◌, Bool, true, false, cond, not, ◌||◌, List, [], ◌∷◌, ◌++◌, length, get_or, drop, map, refl, sym, ap, ◌∙◌, append_assoc, arith, Option, Some, None, Bor}
+use Rattle.std.specs.Prelude.{is_some}
+use Rattle.std.specs.List.{filter}
+use Rattle.std.specs.Option.{option_map, option_copied}
+use Rattle.std.proofs.lemmas.List.{append-nil, at_drop_more}
+use Rattle.std.specs.FinMap.{get}
+use Rattle.khepri_terms.specs.Terms.{NameText}
+use Rattle.khepri_terms.specs.Order.{path_cmp}
+use Rattle.khepri_types.specs.declared.node.Node.{Node}
+use Rattle.khepri_types.specs.declared.watch.Watch.{Watch}
+use Rattle.khepri_types.specs.Conditions.{seen_at, seen_node}
+use Rattle.khepri_types.specs.Settling.{is_met, is_broken, fails, failing}
+use Rattle.khepri_types.specs.Tree.{Tree}
+use Rattle.khepri_types.specs.Watching.{first_unmet, unmet_of}
+use Rattle.tree_nodes.specs.Next.{IsNext}
+use Rattle.tree_nodes.proofs.Walking.{Stands, ahead, walk-begins, walk-goes_on, walk-ends}
+
+abbrev Path : Type 0
+Path = List NameText
+
+abbrev Entry : Type 0
+Entry = Path × Node
+
+-- ---- watches
+
+-- some watch of these isn't met where there is a first one that isn't
+pub unmet-broken : (T : Tree) (watches : List Watch) → is_some (option_map (λ (w : Watch). w.target) (first_unmet T watches)) ≡ is_broken T watches
+unmet-broken T [] = refl
+unmet-broken T (w ∷ watches) = elim (is_met T w) as (λ b. is_some (option_map (λ (x : Watch). x.target) (cond b (first_unmet T watches) (Some w))) ≡ (not b || is_broken T watches)) [
+  | true ↦ unmet-broken T watches
+  | false ↦ refl
+]
+
+-- a node that isn't the root fails where a first watch of it isn't met
+pub unmet-fails : (T : Tree) (p : Path) (n : Node) → 0 < length p → is_some (option_map (λ (w : Watch). w.target) (unmet_of T (Some n))) ≡ fails T p n
+unmet-fails T [] n lt = absurd (omega arith)
+unmet-fails T (a ∷ p) n lt = unmet-broken T n.watches
+
+pub root-fails : (T : Tree) (p : Path) (n : Node) → length p ≡ 0 → false ≡ fails T p n
+root-fails T [] n e = refl
+root-fails T (a ∷ p) n e = absurd (omega arith)
+
+-- the first of the rest that isn't met, by the next of them
+pub unmet-step : (T : Tree) (watches : List Watch) (i : ℕ) (w : Watch) → i < length watches → w ≡ get_or watches i w
+    → first_unmet T (drop i watches) ≡ cond (is_met T w) (first_unmet T (drop (i + 1) watches)) (Some w)
+unmet-step T watches i w lt is = at_drop_more (first_unmet T) watches i w lt ∙ ap (λ (x : Watch). first_unmet T (x ∷ drop (i + 1) watches)) (sym is)
+
+pub unmet-here : (T : Tree) (watches : List Watch) (i : ℕ) (w : Watch) → i < length watches → w ≡ get_or watches i w
+    → first_unmet T (drop i watches) ≡ first_unmet T watches → is_met T w ≡ false → Some w ≡ first_unmet T watches
+unmet-here T watches i w lt is rest low = sym (unmet-step T watches i w lt is ∙ ap (λ (b : Bool). cond b (first_unmet T (drop (i + 1) watches)) (Some w)) low) ∙ rest
+
+pub unmet-later : (T : Tree) (watches : List Watch) (i : ℕ) (w : Watch) → i < length watches → w ≡ get_or watches i w
+    → first_unmet T (drop i watches) ≡ first_unmet T watches → is_met T w ≡ true → first_unmet T (drop (i + 1) watches) ≡ first_unmet T watches
+unmet-later T watches i w lt is rest met = sym (unmet-step T watches i w lt is ∙ ap (λ (b : Bool). cond b (first_unmet T (drop (i + 1) watches)) (Some w)) met) ∙ rest
+
+pub copied-some : (o : Option (Bor Path)) → is_some o ≡ is_some (option_copied o)
+copied-some None = refl
+copied-some (Some p) = refl
+
+-- where nothing is seen no node stands
+pub none-seen : (T : Tree) (p : Path) → None ≡ seen_at T p → get T p ≡ None
+unfolding seen_at
+none-seen T p e = elim (get T p) as (λ o. None ≡ seen_node T p o → o ≡ None) [
+  | None ↦ λ h. refl
+  | Some n ↦ λ h. absurd cc
+] e
+
+-- ---- the walk
+
+-- the paths of those that fail among these
+abbrev pub failing_of : Tree → List Entry → List Path
+failing_of T es = map (λ e. e.0) (filter (λ e. fails T e.0 e.1) es)
+
+-- with the paths found so far, those that fail ahead are all that fail
+abbrev pub Amid : Tree → List Path → Option Path → Type 0
+Amid T paths after = paths ++ failing_of T (ahead T after) ≡ failing T
+
+pub amid-begins : (T : Tree) → Amid T [] None
+amid-begins T = ap (failing_of T) (walk-begins T)
+
+pub amid-ends : (T : Tree) (paths : List Path) (after : Option Path) → IsNext path_cmp (Stands T) after None → Amid T paths after → paths ≡ failing T
+amid-ends T paths after none amid = sym (append-nil paths) ∙ (ap (λ (es : List Entry). paths ++ failing_of T es) (sym (walk-ends T after none)) ∙ amid)
+
+pub amid-fails : (T : Tree) (paths : List Path) (after : Option Path) (x : Path) → IsNext path_cmp (Stands T) after (Some x) → ((n : Node) → get T x ≡ Some n → true ≡ fails T x n)
+    → Amid T paths after → Amid T (paths ++ x ∷ []) (Some x)
+amid-fails T paths after x next low amid =
+    let step = walk-goes_on T after x next in
+    let rest = failing_of T (ahead T (Some x)) in
+    append_assoc paths (x ∷ []) rest
+    ∙ (ap (λ (b : Bool). paths ++ map (λ (e : Entry). e.0) (cond b ((x, step.0) ∷ filter (λ (e : Entry). fails T e.0 e.1) (ahead T (Some x))) (filter (λ (e : Entry). fails T e.0 e.1) (ahead T (Some x))))) (low step.0 step.1)
+    ∙ (ap (λ (es : List Entry). paths ++ failing_of T es) (sym step.2) ∙ amid))
+
+pub amid-stays : (T : Tree) (paths : List Path) (after : Option Path) (x : Path) → IsNext path_cmp (Stands T) after (Some x) → ((n : Node) → get T x ≡ Some n → false ≡ fails T x n)
+    → Amid T paths after → Amid T paths (Some x)
+amid-stays T paths after x next low amid =
+    let step = walk-goes_on T after x next in
+    ap (λ (b : Bool). paths ++ map (λ (e : Entry). e.0) (cond b ((x, step.0) ∷ filter (λ (e : Entry). fails T e.0 e.1) (ahead T (Some x))) (filter (λ (e : Entry). fails T e.0 e.1) (ahead T (Some x))))) (low step.0 step.1)
+    ∙ (ap (λ (es : List Entry). paths ++ failing_of T es) (sym step.2) ∙ amid)
+
+-- fewer are ahead
+pub ahead-less : (T : Tree) (after : Option Path) (x : Path) → IsNext path_cmp (Stands T) after (Some x) → length (ahead T (Some x)) < length (ahead T after)
+ahead-less T after x next = let step = walk-goes_on T after x next in omega (arith, ap length step.2)

@@ -1,0 +1,11 @@
+-- What a command comes to.
+use Rattle.std.specs.Prelude.{◌+◌}
+use Rattle.khepri_types.specs.declared.reply.Reply.{Reply}
+use Rattle.khepri_types.specs.Exec.{State, refused}
+use Rattle.khepri_machine.specs.declared.outcome.Outcome.{Outcome}
+use Rattle.khepri_machine.specs.declared.outcome.Outcome.TheVariants.{Same, Changed}
+
+-- the reply, and the state that follows
+abbrev pub ended : State → Outcome → Reply × State
+ended S (Same r) = refused S r
+ended S (Changed r c) = (r, record { tree = c.tree; position = S.position + 1 })

@@ -1,0 +1,11 @@
+-- What refuses a command before anything is changed.
+use Rattle.std.specs.Prelude.{◌||◌, if◌then◌else◌, List, Option, Some, None}
+use Rattle.khepri_terms.specs.Terms.{NameText}
+use Rattle.khepri_types.specs.declared.reply.Reply.{Reply}
+use Rattle.khepri_types.specs.declared.reply.Reply.TheVariants.{NoRoot, NoDeep}
+use Rattle.khepri_types.specs.declared.watch.Watching.{Watching}
+use Rattle.khepri_types.specs.Watching.{is_deep, watches_root, has_deep_target}
+
+-- what refuses each command that writes the node at the path, whatever stands there
+abbrev pub unwritable : List NameText → Watching → Option Reply
+unwritable p w = if watches_root p w then Some NoRoot else (if is_deep p || has_deep_target w then Some NoDeep else None)

@@ -1,0 +1,92 @@
+// How a draft ends.
+ghost use Rattle.std.specs.Prelude.{◌≡◌, IfOk, OnOk, IsTrue};
+ghost use Rattle.std.specs.Option.{option_copied, option_map};
+ghost use Rattle.std.specs.FinMap.{get};
+ghost use Rattle.khepri_types.specs.Exec.{State, pv_of, settled, wrote};
+ghost use Rattle.khepri_types.specs.Sizes.{fits};
+ghost use Rattle.khepri_types.specs.Tree.{stands};
+ghost use Rattle.khepri_types.specs.Watching.{unmet_of, watch};
+ghost use Rattle.khepri_machine.specs.Outcomes.{ended};
+
+use crate::outcome::Outcome;
+use keep_while::{first_unmet, settle};
+use khepri_terms::Path;
+use khepri_types::limits::{MAX_TREE_BYTES, MAX_TREE_NODES};
+use khepri_types::{Reply, Watching};
+use std::alloc::AllocError;
+use std::sync::ledger::Ledger;
+use step_count::Steps;
+use tree_nodes::Draft;
+
+// Gives the node at the path the watches that are said.
+pub(crate) fn give_watches(
+    draft: &mut Draft,
+    path: &Path,
+    said: &Watching,
+) -> Result<(), AllocError>
+    requires stands { IsTrue (stands draft.old.tree path.now) }
+    ensures { OnOk result (draft.new.tree ≡ watch draft.old.tree path.now said.now) }
+{
+    match said {
+        Watching::Stay => Ok(()),
+        Watching::Free => draft.set_watches(path, &[]),
+        Watching::While(watches) => draft.set_watches(path, watches.as_slice()),
+    }
+}
+
+// Whether the draft keeps the limits of a tree.
+fn fits(draft: &Draft) -> bool
+    ensures { result ≡ fits draft.now.tree }
+{
+    draft.nodes() <= MAX_TREE_NODES as u64 && draft.bytes() <= MAX_TREE_BYTES
+}
+
+// The draft settles, and takes the tree's place unless it passes a limit. The reply has this number.
+pub(crate) fn settled<L: Ledger>(
+    draft: Draft,
+    number: u64,
+    steps: &mut Steps<L>,
+) -> Result<Outcome, AllocError>
+    ensures { IfOk result (λ o. (S : State) → settled S draft.entry.tree number ≡ ended S o) }
+{
+    let mut draft = draft;
+    let gone = settle(&mut draft, steps)?;
+    if !fits(&draft) {
+        return Ok(Outcome::Same(Reply::NoFull));
+    }
+    let reply = Reply::Changed {
+        count: number,
+        gone,
+    };
+    Ok(Outcome::Changed(reply, draft.into_changes()))
+}
+
+// A watch of the written node that isn't met refuses the command.
+fn unmet<L: Ledger>(
+    draft: &Draft,
+    path: &Path,
+    steps: &mut Steps<L>,
+) -> Result<Option<Path>, AllocError>
+    ensures { IfOk result (λ o. o ≡ option_map (λ w. w.target) (unmet_of draft.now.tree (get draft.now.tree path.now))) }
+{
+    match first_unmet(draft, path, steps) {
+        None => Ok(None),
+        Some(target) => Ok(Some(target.copy()?)),
+    }
+}
+
+// The node at the path was written in the draft, and has this payload version.
+pub(crate) fn wrote<L: Ledger>(
+    draft: Draft,
+    path: &Path,
+    version: u64,
+    steps: &mut Steps<L>,
+) -> Result<Outcome, AllocError>
+    requires version { version ≡ pv_of (get draft.tree path.now) }
+    ensures { IfOk result (λ o. (S : State) → wrote S path.now draft.entry.tree ≡ ended S o) }
+{
+    if let Some(target) = unmet(&draft, path, steps)? {
+        return Ok(Outcome::Same(Reply::NoWhile { target }));
+    }
+    settled(draft, version, steps)
+}

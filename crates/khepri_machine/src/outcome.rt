@@ -1,0 +1,12 @@
+// What a command comes to.
+use khepri_types::Reply;
+use tree_nodes::Changes;
+
+/// What is answered, and what becomes of the tree.
+#[derive(Drop)]
+pub(crate) enum Outcome {
+    /// The tree stays.
+    Same(Reply),
+    /// The tree becomes what a draft came to.
+    Changed(Reply, Changes),
+}

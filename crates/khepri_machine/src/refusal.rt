@@ -1,0 +1,68 @@
+// What refuses a command before anything is changed.
+ghost use Rattle.std.specs.Prelude.{◌≡◌, ltb, length};
+ghost use Rattle.std.specs.List.{list_any};
+ghost use Rattle.khepri_types.specs.Watching.{is_deep, is_given, watches_root, has_deep_target};
+ghost use Rattle.khepri_machine.specs.Refusals.{unwritable};
+
+use khepri_terms::Path;
+use khepri_types::limits::MAX_PATH_NAMES;
+use khepri_types::{Reply, Watch, Watching};
+
+fn is_deep(path: &Path) -> bool
+    ensures { result ≡ is_deep path.now }
+{
+    path.len() > MAX_PATH_NAMES
+}
+
+fn is_given(watch: &Watching) -> bool
+    ensures { result ≡ is_given watch.now }
+{
+    match watch {
+        Watching::Stay => false,
+        Watching::Free => true,
+        Watching::While(_) => true,
+    }
+}
+
+fn watches_root(path: &Path, watch: &Watching) -> bool
+    ensures { result ≡ watches_root path.now watch.now }
+{
+    if path.len() == 0 {
+        return is_given(watch);
+    }
+    false
+}
+
+fn some_target_is_deep(watches: &[Watch]) -> bool
+    ensures { result ≡ list_any (λ w. is_deep w.target) watches.now }
+{
+    for watch in watches {
+        if is_deep(&watch.target) {
+            return true;
+        }
+    }
+    false
+}
+
+fn has_deep_target(watch: &Watching) -> bool
+    ensures { result ≡ has_deep_target watch.now }
+{
+    match watch {
+        Watching::Stay => false,
+        Watching::Free => false,
+        Watching::While(watches) => some_target_is_deep(watches.as_slice()),
+    }
+}
+
+// What refuses each command that writes the node at the path, whatever stands there.
+pub(crate) fn unwritable(path: &Path, watch: &Watching) -> Option<Reply>
+    ensures { result ≡ unwritable path.now watch.now }
+{
+    if watches_root(path, watch) {
+        return Some(Reply::NoRoot);
+    }
+    if is_deep(path) || has_deep_target(watch) {
+        return Some(Reply::NoDeep);
+    }
+    None
+}

@@ -1,0 +1,313 @@
+// Conditions.
+ghost use Rattle.std.specs.Prelude.{◌≡◌, ◌++◌, ◌+◌, ◌≤◌, length, take, drop, map, IfOk, OnOk, OnErr, Err, Some, None};
+ghost use Rattle.khepri_types.specs.ConditionTexts.{joined, asked_text, condition_text};
+ghost use Rattle.khepri_types.specs.ReadingConditions.{list_end_at, not_asked, some_asked, list_asked, layer_at, nested_at, condition_at};
+ghost use Rattle.line_text.specs.Joining.{comma};
+ghost use Rattle.line_text.specs.Conditions.{OnlyCondition, BeginsNoCondition};
+
+use crate::atom::{
+    append_comparison, append_field, read_field_asked, read_is_asked, read_mark, read_name_asked,
+    read_number_asked,
+};
+use crate::glob::append_glob;
+use khepri_terms::TextFault;
+use khepri_types::Condition;
+use khepri_types::limits::{MAX_CONDITION_NESTING, MAX_CONDITION_PARTS};
+use sqlite_items::{Boxed, Items};
+use std::alloc::{AllocError, Global};
+
+/// Appends the spelling of a condition; where memory is wanting, nothing.
+pub fn print_condition(cond: &Condition, out: &mut Vec<u8>) -> Result<(), AllocError>
+    ensures ok { OnOk result (out.new.items ≡ out.old.items ++ condition_text cond.now) }
+    ensures err { OnErr result (out.new.items ≡ out.old.items) }
+{
+    let len = out.len();
+    let printed = append_condition(cond, out);
+    if printed.is_err() {
+        out.truncate(len);
+    }
+    printed
+}
+
+#[cycle(printing)]
+#[tactic(auto, unfolding(khepri_types::specs::ConditionTexts::layer_text), using(khepri_terms::proofs::Printing::front_then))]
+pub(crate) fn append_condition(cond: &Condition, out: &mut Vec<u8>) -> Result<(), AllocError>
+    ensures ok { OnOk result (out.new.items ≡ out.old.items ++ condition_text cond.now) }
+    ensures front { take (length out.old.items) out.new.items ≡ out.old.items }
+{
+    match cond {
+        Condition::Absent => out.extend_from_slice(b"absent")?,
+        Condition::Exists => out.extend_from_slice(b"exists")?,
+        Condition::Payload => out.extend_from_slice(b"payload")?,
+        Condition::Data => out.extend_from_slice(b"data")?,
+        Condition::Sproc => out.extend_from_slice(b"sproc")?,
+        Condition::Name(glob) => {
+            out.extend_from_slice(b"name(")?;
+            append_glob(glob, out)?;
+            out.push(b')')?;
+        }
+        Condition::Is(rec) => {
+            out.extend_from_slice(b"is(")?;
+            rec.print(out)?;
+            out.push(b')')?;
+        }
+        Condition::Field { key, op, value } => {
+            out.extend_from_slice(b"field(")?;
+            append_field(key, *op, value, out)?;
+            out.push(b')')?;
+        }
+        Condition::Pv(op, number) => {
+            out.extend_from_slice(b"pv(")?;
+            append_comparison(*op, *number, out)?;
+            out.push(b')')?;
+        }
+        Condition::Cv(op, number) => {
+            out.extend_from_slice(b"cv(")?;
+            append_comparison(*op, *number, out)?;
+            out.push(b')')?;
+        }
+        Condition::Kids(op, number) => {
+            out.extend_from_slice(b"kids(")?;
+            append_comparison(*op, *number, out)?;
+            out.push(b')')?;
+        }
+        Condition::Not(inner) => {
+            out.extend_from_slice(b"not(")?;
+            append_condition(inner.get(), out)?;
+            out.push(b')')?;
+        }
+        Condition::All(parts) => {
+            out.extend_from_slice(b"all(")?;
+            append_joined(parts.as_slice(), out)?;
+            out.push(b')')?;
+        }
+        Condition::Any(parts) => {
+            out.extend_from_slice(b"any(")?;
+            append_joined(parts.as_slice(), out)?;
+            out.push(b')')?;
+        }
+    }
+    Ok(())
+}
+
+// Appends the conditions joined by `,`.
+#[cycle(printing)]
+#[tactic(auto, using(khepri_terms::proofs::Printing::front_then))]
+fn append_joined(parts: &[Condition], out: &mut Vec<u8>) -> Result<(), AllocError>
+    ensures ok { OnOk result (out.new.items ≡ out.old.items ++ joined (map condition_text parts.now)) }
+    ensures front { take (length out.old.items) out.new.items ≡ out.old.items }
+{
+    for (i, part) in parts.iter().enumerate() {
+        append_comma(i, out)?;
+        append_condition(part, out)?;
+    }
+    Ok(())
+}
+
+// Appends a `,` behind the first part.
+fn append_comma(i: usize, out: &mut Vec<u8>) -> Result<(), AllocError>
+    ensures ok { OnOk result (out.new.items ≡ out.old.items ++ comma i) }
+    ensures err { OnErr result (out.new.items ≡ out.old.items) }
+{
+    if i == 0 {
+        return Ok(());
+    }
+    out.push(b',')?;
+    Ok(())
+}
+
+/// The condition that is spelled at the front, and what is after it.
+pub fn read_condition(alloc: Global, text: &[u8]) -> Result<(Condition, &[u8]), TextFault>
+    ensures value { IfOk result (λ x. condition_at text.now ≡ Some (x.0, x.1.now)) }
+    ensures bad { result ≡ Err TextFault.Bad → condition_at text.now ≡ None }
+    ensures only { IfOk result (λ x. OnlyCondition text.now x.0 x.1.now) }
+    ensures none { result ≡ Err TextFault.Bad → BeginsNoCondition text.now }
+{
+    match_condition(alloc, text)
+}
+
+/// The condition that is spelled at `at`, and where it ends.
+pub fn read_condition_at(
+    alloc: Global,
+    text: &[u8],
+    at: usize,
+) -> Result<(Condition, usize), TextFault>
+    requires { at ≤ length text.now }
+    ensures value { IfOk result (λ x. condition_at (drop at text.now) ≡ Some (x.0, drop x.1 text.now)) }
+    ensures end { IfOk result (λ x. x.1 ≡ at + length (condition_text x.0)) }
+    ensures within { IfOk result (λ x. x.1 ≤ length text.now) }
+    ensures bad { result ≡ Err TextFault.Bad → condition_at (drop at text.now) ≡ None }
+    ensures only { IfOk result (λ x. OnlyCondition (drop at text.now) x.0 (drop x.1 text.now)) }
+    ensures none { result ≡ Err TextFault.Bad → BeginsNoCondition (drop at text.now) }
+{
+    let (_, behind) = text.split_at(at);
+    let (cond, rest) = read_condition(alloc, behind)?;
+    Ok((cond, text.len() - rest.len()))
+}
+
+#[tactic(auto, unfolding(khepri_types::specs::ReadingConditions::condition_at))]
+fn match_condition(alloc: Global, text: &[u8]) -> Result<(Condition, &[u8]), TextFault>
+    ensures value { IfOk result (λ x. condition_at text.now ≡ Some (x.0, x.1.now)) }
+    ensures bad { result ≡ Err TextFault.Bad → condition_at text.now ≡ None }
+{
+    let (cond, _, rest) = read_nested(alloc, MAX_CONDITION_NESTING, MAX_CONDITION_PARTS, text)?;
+    Ok((cond, rest))
+}
+
+// The condition at the front, of at most `nesting` in one another and `left` in all, how many are left, and what is after it.
+#[cycle(reading)]
+fn read_nested(
+    alloc: Global,
+    nesting: usize,
+    left: usize,
+    text: &[u8],
+) -> Result<(Condition, usize, &[u8]), TextFault>
+    ensures value { IfOk result (λ x. nested_at nesting left text.now ≡ Some (x.0, x.1, x.2.now)) }
+    ensures bad { result ≡ Err TextFault.Bad → nested_at nesting left text.now ≡ None }
+{
+    if nesting == 0 {
+        return Err(TextFault::Bad);
+    }
+    if left == 0 {
+        return Err(TextFault::Bad);
+    }
+    read_layer(alloc, nesting - 1, left - 1, text)
+}
+
+// The word of the condition at the front, and what it asks.
+#[cycle(reading)]
+#[tactic(auto, unfolding(khepri_types::specs::ReadingConditions::layer_at))]
+fn read_layer(
+    alloc: Global,
+    nesting: usize,
+    left: usize,
+    text: &[u8],
+) -> Result<(Condition, usize, &[u8]), TextFault>
+    ensures value { IfOk result (λ x. layer_at (nested_at nesting) left text.now ≡ Some (x.0, x.1, x.2.now)) }
+    ensures bad { result ≡ Err TextFault.Bad → layer_at (nested_at nesting) left text.now ≡ None }
+{
+    if let Some(rest) = text.strip_prefix(b"absent") {
+        return Ok((Condition::Absent, left, rest));
+    }
+    if let Some(rest) = text.strip_prefix(b"exists") {
+        return Ok((Condition::Exists, left, rest));
+    }
+    if let Some(rest) = text.strip_prefix(b"payload") {
+        return Ok((Condition::Payload, left, rest));
+    }
+    if let Some(rest) = text.strip_prefix(b"data") {
+        return Ok((Condition::Data, left, rest));
+    }
+    if let Some(rest) = text.strip_prefix(b"sproc") {
+        return Ok((Condition::Sproc, left, rest));
+    }
+    if let Some(rest) = text.strip_prefix(b"name(") {
+        return read_name_asked(alloc, left, rest);
+    }
+    if let Some(rest) = text.strip_prefix(b"is(") {
+        return read_is_asked(alloc, left, rest);
+    }
+    if let Some(rest) = text.strip_prefix(b"field(") {
+        return read_field_asked(alloc, left, rest);
+    }
+    if let Some(rest) = text.strip_prefix(b"pv(") {
+        let (op, number, rest) = read_number_asked(rest)?;
+        return Ok((Condition::Pv(op, number), left, rest));
+    }
+    if let Some(rest) = text.strip_prefix(b"cv(") {
+        let (op, number, rest) = read_number_asked(rest)?;
+        return Ok((Condition::Cv(op, number), left, rest));
+    }
+    if let Some(rest) = text.strip_prefix(b"kids(") {
+        let (op, number, rest) = read_number_asked(rest)?;
+        return Ok((Condition::Kids(op, number), left, rest));
+    }
+    if let Some(rest) = text.strip_prefix(b"not(") {
+        return read_not_asked(alloc, nesting, left, rest);
+    }
+    if let Some(rest) = text.strip_prefix(b"all(") {
+        let (parts, left, rest) = read_list(alloc, nesting, left, rest)?;
+        return Ok((Condition::All(parts), left, rest));
+    }
+    if let Some(rest) = text.strip_prefix(b"any(") {
+        let (parts, left, rest) = read_list(alloc, nesting, left, rest)?;
+        return Ok((Condition::Any(parts), left, rest));
+    }
+    Err(TextFault::Bad)
+}
+
+// Behind `not(`.
+#[cycle(reading)]
+#[tactic(auto, unfolding(khepri_types::specs::ReadingConditions::not_asked))]
+fn read_not_asked(
+    alloc: Global,
+    nesting: usize,
+    left: usize,
+    text: &[u8],
+) -> Result<(Condition, usize, &[u8]), TextFault>
+    ensures value { IfOk result (λ x. not_asked (nested_at nesting) left text.now ≡ Some (x.0, x.1, x.2.now)) }
+    ensures bad { result ≡ Err TextFault.Bad → not_asked (nested_at nesting) left text.now ≡ None }
+{
+    let (inner, left, rest) = read_nested(alloc, nesting, left, text)?;
+    let rest = read_mark(rest, b')')?;
+    Ok((Condition::Not(Boxed::new(alloc, inner)?), left, rest))
+}
+
+// Behind `all(` or `any(`.
+#[cycle(reading)]
+#[tactic(auto, unfolding(khepri_types::specs::ReadingConditions::list_asked))]
+fn read_list(
+    alloc: Global,
+    nesting: usize,
+    left: usize,
+    text: &[u8],
+) -> Result<(Items<Condition>, usize, &[u8]), TextFault>
+    ensures value { IfOk result (λ x. list_asked (nested_at nesting) left text.now ≡ Some (x.0, x.1, x.2.now)) }
+    ensures bad { result ≡ Err TextFault.Bad → list_asked (nested_at nesting) left text.now ≡ None }
+{
+    match text {
+        [] => Err(TextFault::Bad),
+        [b')', rest @ ..] => Ok((Items::new(alloc), left, rest)),
+        [_, ..] => read_parts(alloc, nesting, left, text),
+    }
+}
+
+// Conditions joined by `,`, at least one, and the `)` behind them.
+#[cycle(reading)]
+fn read_parts(
+    alloc: Global,
+    nesting: usize,
+    left: usize,
+    text: &[u8],
+) -> Result<(Items<Condition>, usize, &[u8]), TextFault>
+    ensures value { IfOk result (λ x. some_asked (nested_at nesting) left left text.now ≡ Some (x.0, x.1, x.2.now)) }
+    ensures bad { result ≡ Err TextFault.Bad → some_asked (nested_at nesting) left left text.now ≡ None }
+{
+    let mut parts = Items::new(alloc);
+    let mut more = left;
+    let mut rest = text;
+    'parts: while parts.len() < left {
+        let (part, fewer, after) = read_nested(alloc, nesting, more, rest)?;
+        parts.push(part)?;
+        let (is_last, next) = read_list_end(after)?;
+        if is_last {
+            return Ok((parts, fewer, next));
+        }
+        more = fewer;
+        rest = next;
+    }
+    Err(TextFault::Bad)
+}
+
+// Whether a list ends behind a condition or goes on, and what is after that.
+#[tactic(auto, unfolding(khepri_types::specs::ReadingConditions::list_end_at))]
+fn read_list_end(text: &[u8]) -> Result<(bool, &[u8]), TextFault>
+    ensures value { IfOk result (λ x. list_end_at text.now ≡ Some (x.0, x.1.now)) }
+    ensures bad { result ≡ Err TextFault.Bad → list_end_at text.now ≡ None }
+{
+    match text {
+        [b')', rest @ ..] => Ok((true, rest)),
+        [b',', rest @ ..] => Ok((false, rest)),
+        _ => Err(TextFault::Bad),
+    }
+}

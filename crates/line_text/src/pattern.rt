@@ -1,0 +1,192 @@
+// Patterns.
+ghost use Rattle.std.specs.Prelude.{◌≡◌, ◌++◌, ◌+◌, ◌≤◌, length, take, drop, IfOk, OnOk, OnErr, Err, Some, None};
+ghost use Rattle.std.specs.List.{flat_map};
+ghost use Rattle.khepri_terms.specs.Many.{many};
+ghost use Rattle.khepri_types.specs.PatternTexts.{part_text, stage_text, pattern_text};
+ghost use Rattle.khepri_types.specs.ReadingConditions.{meets_at, part_at, stage_at, pattern_at};
+ghost use Rattle.line_text.specs.Conditions.{OnlyPattern, BeginsNoPattern};
+
+use crate::atom::read_mark;
+use crate::condition::{append_condition, read_condition};
+use khepri_terms::{Name, TextFault};
+use khepri_types::limits::{MAX_PATTERN_PARTS, MAX_PATTERN_TEXT};
+use khepri_types::{Pattern, PatternPart};
+use sqlite_items::Items;
+use std::alloc::{AllocError, Global};
+
+/// Appends the spelling of a pattern; where memory is wanting, nothing.
+pub fn print_pattern(pattern: &Pattern, out: &mut Vec<u8>) -> Result<(), AllocError>
+    ensures ok { OnOk result (out.new.items ≡ out.old.items ++ pattern_text pattern.now) }
+    ensures err { OnErr result (out.new.items ≡ out.old.items) }
+{
+    let len = out.len();
+    let printed = append_pattern(pattern, out);
+    if printed.is_err() {
+        out.truncate(len);
+    }
+    printed
+}
+
+pub(crate) fn append_pattern(pattern: &Pattern, out: &mut Vec<u8>) -> Result<(), AllocError>
+    ensures ok { OnOk result (out.new.items ≡ out.old.items ++ pattern_text pattern.now) }
+    ensures front { take (length out.old.items) out.new.items ≡ out.old.items }
+{
+    append_parts(pattern.parts(), out)
+}
+
+#[tactic(auto, unfolding(khepri_types::specs::PatternTexts::pattern_text))]
+fn append_parts(parts: &[PatternPart], out: &mut Vec<u8>) -> Result<(), AllocError>
+    ensures ok { OnOk result (out.new.items ≡ out.old.items ++ pattern_text parts.now) }
+    ensures front { take (length out.old.items) out.new.items ≡ out.old.items }
+{
+    match parts {
+        [] => out.push(b'/')?,
+        [_, ..] => append_stages(parts, out)?,
+    }
+    Ok(())
+}
+
+// Appends each part behind a slash.
+#[tactic(auto, using(khepri_terms::proofs::Printing::front_then))]
+fn append_stages(parts: &[PatternPart], out: &mut Vec<u8>) -> Result<(), AllocError>
+    ensures ok { OnOk result (out.new.items ≡ out.old.items ++ flat_map stage_text parts.now) }
+    ensures front { take (length out.old.items) out.new.items ≡ out.old.items }
+{
+    for part in parts {
+        append_stage(part, out)?;
+    }
+    Ok(())
+}
+
+// Appends a slash and a part.
+#[tactic(auto, using(khepri_terms::proofs::Printing::front_then))]
+fn append_stage(part: &PatternPart, out: &mut Vec<u8>) -> Result<(), AllocError>
+    ensures ok { OnOk result (out.new.items ≡ out.old.items ++ stage_text part.now) }
+    ensures front { take (length out.old.items) out.new.items ≡ out.old.items }
+{
+    out.push(b'/')?;
+    append_part(part, out)
+}
+
+#[tactic(auto, unfolding(khepri_types::specs::PatternTexts::part_text), using(khepri_terms::proofs::Printing::front_then))]
+fn append_part(part: &PatternPart, out: &mut Vec<u8>) -> Result<(), AllocError>
+    ensures ok { OnOk result (out.new.items ≡ out.old.items ++ part_text part.now) }
+    ensures front { take (length out.old.items) out.new.items ≡ out.old.items }
+{
+    match part {
+        PatternPart::Name(name) => name.print(out)?,
+        PatternPart::One => out.push(b'*')?,
+        PatternPart::Many => out.extend_from_slice(b"**")?,
+        PatternPart::Meets(cond) => {
+            out.push(b'[')?;
+            append_condition(cond, out)?;
+            out.push(b']')?;
+        }
+    }
+    Ok(())
+}
+
+/// The pattern at the front, read as far as it goes, and what is after it.
+pub fn read_pattern(alloc: Global, text: &[u8]) -> Result<(Pattern, &[u8]), TextFault>
+    ensures value { IfOk result (λ x. pattern_at text.now ≡ Some (x.0, x.1.now)) }
+    ensures bad { result ≡ Err TextFault.Bad → pattern_at text.now ≡ None }
+    ensures only { IfOk result (λ x. OnlyPattern text.now x.0 x.1.now) }
+    ensures none { result ≡ Err TextFault.Bad → BeginsNoPattern text.now }
+{
+    let (parts, rest) = match_pattern(alloc, text)?;
+    Ok((Pattern::new(parts), rest))
+}
+
+/// The pattern at `at`, read as far as it goes, and where it ends.
+pub fn read_pattern_at(alloc: Global, text: &[u8], at: usize) -> Result<(Pattern, usize), TextFault>
+    requires { at ≤ length text.now }
+    ensures value { IfOk result (λ x. pattern_at (drop at text.now) ≡ Some (x.0, drop x.1 text.now)) }
+    ensures end { IfOk result (λ x. x.1 ≡ at + length (pattern_text x.0)) }
+    ensures within { IfOk result (λ x. x.1 ≤ length text.now) }
+    ensures bad { result ≡ Err TextFault.Bad → pattern_at (drop at text.now) ≡ None }
+    ensures only { IfOk result (λ x. OnlyPattern (drop at text.now) x.0 (drop x.1 text.now)) }
+    ensures none { result ≡ Err TextFault.Bad → BeginsNoPattern (drop at text.now) }
+{
+    let (_, behind) = text.split_at(at);
+    let (pattern, rest) = read_pattern(alloc, behind)?;
+    Ok((pattern, text.len() - rest.len()))
+}
+
+// The parts of the pattern at the front, and what is after it.
+#[tactic(auto, using(crate::proofs::Stages::pattern_root, crate::proofs::Stages::pattern_odd, crate::proofs::Stages::pattern_found, crate::proofs::Stages::pattern_long))]
+fn match_pattern(alloc: Global, text: &[u8]) -> Result<(Items<PatternPart>, &[u8]), TextFault>
+    ensures value { IfOk result (λ x. pattern_at text.now ≡ Some (x.0, x.1.now)) }
+    ensures bad { result ≡ Err TextFault.Bad → pattern_at text.now ≡ None }
+{
+    let (parts, rest) = read_stages(alloc, text)?;
+    if parts.len() == 0 {
+        let after = read_mark(text, b'/')?;
+        return Ok((Items::from_vec(parts), after));
+    }
+    if text.len() - rest.len() > MAX_PATTERN_TEXT {
+        return Err(TextFault::Bad);
+    }
+    Ok((Items::from_vec(parts), rest))
+}
+
+// As many parts as stand at the front, each behind a slash, and what is after them.
+fn read_stages(alloc: Global, text: &[u8]) -> Result<(Vec<PatternPart>, &[u8]), AllocError>
+    ensures value { IfOk result (λ x. many stage_at 32 text.now ≡ (x.0.items, x.1.now)) }
+    ensures within { IfOk result (λ x. length x.1.now ≤ length text.now) }
+{
+    let mut parts = Vec::new(alloc);
+    let mut rest = text;
+    'parts: while parts.len() < MAX_PATTERN_PARTS {
+        match read_stage(alloc, rest) {
+            Ok((part, after)) => {
+                parts.push(part)?;
+                rest = after;
+            }
+            Err(TextFault::Bad) => break 'parts,
+            Err(TextFault::NoMemory) => return Err(AllocError),
+        }
+    }
+    Ok((parts, rest))
+}
+
+// The slash and the part at the front, and what is after it.
+#[tactic(auto, unfolding(khepri_types::specs::ReadingConditions::stage_at))]
+fn read_stage(alloc: Global, text: &[u8]) -> Result<(PatternPart, &[u8]), TextFault>
+    ensures value { IfOk result (λ x. stage_at text.now ≡ Some (x.0, x.1.now)) }
+    ensures bad { result ≡ Err TextFault.Bad → stage_at text.now ≡ None }
+{
+    match text {
+        [b'/', rest @ ..] => read_part(alloc, rest),
+        _ => Err(TextFault::Bad),
+    }
+}
+
+// The part at the front, and what is after it.
+#[tactic(auto, unfolding(khepri_types::specs::ReadingConditions::part_at))]
+fn read_part(alloc: Global, text: &[u8]) -> Result<(PatternPart, &[u8]), TextFault>
+    ensures value { IfOk result (λ x. part_at text.now ≡ Some (x.0, x.1.now)) }
+    ensures bad { result ≡ Err TextFault.Bad → part_at text.now ≡ None }
+{
+    if let Some(rest) = text.strip_prefix(b"**") {
+        return Ok((PatternPart::Many, rest));
+    }
+    if let Some(rest) = text.strip_prefix(b"*") {
+        return Ok((PatternPart::One, rest));
+    }
+    if let Some(rest) = text.strip_prefix(b"[") {
+        return read_meets(alloc, rest);
+    }
+    let (name, rest) = Name::read(alloc, text)?;
+    Ok((PatternPart::Name(name), rest))
+}
+
+// The condition behind a `[`, and what is after its `]`.
+#[tactic(auto, unfolding(khepri_types::specs::ReadingConditions::meets_at))]
+fn read_meets(alloc: Global, text: &[u8]) -> Result<(PatternPart, &[u8]), TextFault>
+    ensures value { IfOk result (λ x. meets_at text.now ≡ Some (x.0, x.1.now)) }
+    ensures bad { result ≡ Err TextFault.Bad → meets_at text.now ≡ None }
+{
+    let (cond, rest) = read_condition(alloc, text)?;
+    let rest = read_mark(rest, b']')?;
+    Ok((PatternPart::Meets(cond), rest))
+}

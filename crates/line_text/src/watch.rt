@@ -1,0 +1,132 @@
+// What a command says of watches.
+ghost use Rattle.std.specs.Prelude.{◌≡◌, ◌++◌, ◌∷◌, length, take, codes, IfOk, OnOk, OnErr, Err, Some, None};
+ghost use Rattle.std.specs.List.{flat_map};
+ghost use Rattle.khepri_terms.specs.Many.{many};
+ghost use Rattle.khepri_terms.specs.Paths.{path_text};
+ghost use Rattle.khepri_types.specs.ConditionTexts.{condition_text};
+ghost use Rattle.khepri_types.specs.Texts.{watch_text, watching_text};
+ghost use Rattle.khepri_types.specs.Reading.{watch_at, whole_watches, spelled_watching};
+
+use crate::atom::read_mark;
+use crate::condition::{append_condition, read_condition};
+use crate::words::{after, is_word};
+use khepri_terms::{Path, TextFault};
+use khepri_types::limits::MAX_WATCHES;
+use khepri_types::{Condition, Watch, Watches, Watching};
+use std::alloc::{AllocError, Global};
+
+/// Appends nothing, ` free`, or the watches one after another.
+#[tactic(auto, unfolding(khepri_types::specs::Texts::watching_text))]
+pub(crate) fn append_watching(watch: &Watching, out: &mut Vec<u8>) -> Result<(), AllocError>
+    ensures ok { OnOk result (out.new.items ≡ out.old.items ++ watching_text watch.now) }
+    ensures front { take (length out.old.items) out.new.items ≡ out.old.items }
+{
+    match watch {
+        Watching::Stay => Ok(()),
+        Watching::Free => out.extend_from_slice(b" free"),
+        Watching::While(watches) => append_watches(watches.as_slice(), out),
+    }
+}
+
+// Appends the watches one after another.
+#[tactic(auto, using(khepri_terms::proofs::Printing::front_then))]
+fn append_watches(watches: &[Watch], out: &mut Vec<u8>) -> Result<(), AllocError>
+    ensures ok { OnOk result (out.new.items ≡ out.old.items ++ flat_map watch_text watches.now) }
+    ensures front { take (length out.old.items) out.new.items ≡ out.old.items }
+{
+    for watch in watches {
+        append_watch(watch, out)?;
+    }
+    Ok(())
+}
+
+// Appends ` while PATH COND`.
+#[tactic(auto, unfolding(khepri_types::specs::Texts::watch_text), using(khepri_terms::proofs::Printing::front_then))]
+fn append_watch(watch: &Watch, out: &mut Vec<u8>) -> Result<(), AllocError>
+    ensures ok { OnOk result (out.new.items ≡ out.old.items ++ watch_text watch.now) }
+    ensures front { take (length out.old.items) out.new.items ≡ out.old.items }
+{
+    out.extend_from_slice(b" while ")?;
+    append_asked(&watch.target, &watch.cond, out)
+}
+
+/// Appends `PATH COND`.
+#[tactic(auto, using(khepri_terms::proofs::Printing::front_then))]
+pub(crate) fn append_asked(
+    path: &Path,
+    cond: &Condition,
+    out: &mut Vec<u8>,
+) -> Result<(), AllocError>
+    ensures ok { OnOk result (out.new.items ≡ out.old.items ++ (path_text path.now ++ 32 ∷ condition_text cond.now)) }
+    ensures front { take (length out.old.items) out.new.items ≡ out.old.items }
+{
+    path.print(out)?;
+    out.push(b' ')?;
+    append_condition(cond, out)
+}
+
+/// What the whole text says of watches.
+#[tactic(auto, unfolding(khepri_types::specs::Reading::spelled_watching))]
+pub(crate) fn read_watching(alloc: Global, text: &[u8]) -> Result<Watching, TextFault>
+    ensures value { IfOk result (λ x. spelled_watching text.now ≡ Some x) }
+    ensures bad { result ≡ Err TextFault.Bad → spelled_watching text.now ≡ None }
+{
+    match text {
+        [] => Ok(Watching::Stay),
+        [_, ..] => {
+            if is_word(text, b" free") {
+                return Ok(Watching::Free);
+            }
+            read_whole_watches(alloc, text)
+        }
+    }
+}
+
+// The watches that the whole text spells, at least one.
+fn read_whole_watches(alloc: Global, text: &[u8]) -> Result<Watching, TextFault>
+    ensures value { IfOk result (λ x. whole_watches (many watch_at 16 text.now) ≡ Some x) }
+    ensures bad { result ≡ Err TextFault.Bad → whole_watches (many watch_at 16 text.now) ≡ None }
+{
+    let (watches, rest) = read_watches(alloc, text)?;
+    if watches.len() == 0 {
+        return Err(TextFault::Bad);
+    }
+    match rest {
+        [] => Ok(Watching::While(Watches::from_vec(watches))),
+        [_, ..] => Err(TextFault::Bad),
+    }
+}
+
+// As many watches as stand at the front, at most 16, and what is after them.
+fn read_watches(alloc: Global, text: &[u8]) -> Result<(Vec<Watch>, &[u8]), AllocError>
+    ensures { IfOk result (λ x. many watch_at 16 text.now ≡ (x.0.items, x.1.now)) }
+{
+    let mut watches = Vec::new(alloc);
+    let mut rest = text;
+    'watches: while watches.len() < MAX_WATCHES {
+        match read_watch(alloc, rest) {
+            Ok((watch, after)) => {
+                watches.push(watch)?;
+                rest = after;
+            }
+            Err(TextFault::Bad) => break 'watches,
+            Err(TextFault::NoMemory) => return Err(AllocError),
+        }
+    }
+    Ok((watches, rest))
+}
+
+// The watch at the front, and what is after it.
+#[tactic(auto, unfolding(khepri_types::specs::Reading::watch_at))]
+fn read_watch(alloc: Global, text: &[u8]) -> Result<(Watch, &[u8]), TextFault>
+    ensures value { IfOk result (λ x. watch_at text.now ≡ Some (x.0, x.1.now)) }
+    ensures bad { result ≡ Err TextFault.Bad → watch_at text.now ≡ None }
+{
+    let Some(rest) = after(text, b" while ") else {
+        return Err(TextFault::Bad);
+    };
+    let (target, rest) = Path::read(alloc, rest)?;
+    let rest = read_mark(rest, b' ')?;
+    let (cond, rest) = read_condition(alloc, rest)?;
+    Ok((Watch { target, cond }, rest))
+}

@@ -1,0 +1,11 @@
+pub mod Slots
+pub mod Kids
+pub mod Trees
+pub mod Ways
+pub mod Beginnings
+pub mod Nexts
+pub mod Cuts
+pub mod Lefts
+pub mod ByteSums
+pub mod Commas
+pub mod Walking

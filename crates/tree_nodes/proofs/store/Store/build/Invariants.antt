@@ -1,0 +1,14 @@
+use Rattle.std.proofs.Common.{◌≡◌, ◌-◌}
+use Rattle.std.specs.FinMap.{from_sorted}
+use Rattle.khepri_terms.specs.Order.{path_cmp}
+use Rattle.khepri_types.specs.Tree.{set}
+use Rattle.tree_nodes.specs.Kept.{nodes_bytes}
+use Rattle.tree_nodes.proofs.Ways.{Way}
+use Rattle.tree_nodes.proofs.store.Store.build.Given as goal
+
+abbrev pub invariant-way : goal.invariant-way
+invariant-way l = record {
+  way : Way l.self.nodes.items l.self.kids.items l.path l.fn.payload l.len (l.last - l.len) (set (from_sorted {R = path_cmp} l.fn.self.nodes.items) l.path l.fn.payload);
+  same : l.payload ≡ l.fn.payload;
+  bytes : l.self.bytes ≡ nodes_bytes l.self.nodes.items;
+}

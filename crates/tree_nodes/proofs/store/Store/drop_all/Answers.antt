@@ -1,0 +1,21 @@
+use Rattle.std.proofs.Common.{◌∙◌, List, length, ap, sym, arith}
+use Rattle.std.specs.FinMap.{from_sorted}
+use Rattle.khepri_terms.specs.Order.{path_cmp}
+use Rattle.tree_nodes.proofs.Slots.{Entry}
+use Rattle.tree_nodes.proofs.Trees.{tree_len}
+use Rattle.tree_nodes.proofs.Lefts.{drop_is, len-left}
+use Rattle.tree_nodes.proofs.store.Store.drop_all.Goals as goal
+
+pub overflow_sub-result : goal.overflow_sub-result
+overflow_sub-result c =
+    let es = c.args.self.now.nodes.items in
+    omega (arith, len-left c.args.paths.now es, ap (λ (ys : List Entry). length ys) c.sift.ensures.nodes, ap (λ (ys : List Entry). length ys) c.as_slice-6.ensures.value, ap (λ (ys : List Entry). length ys) c.as_slice.ensures.value, c.as_slice.ensures.len, c.len-before.ensures)
+
+pub returns-clause-tree : goal.returns-clause-tree
+returns-clause-tree c =
+    ap (λ (ys : List Entry). from_sorted {R = path_cmp} ys) c.sift.ensures.nodes ∙ sym (drop_is c.args.paths.now c.args.self.now.nodes.items c.requires.kept.sorted)
+
+pub returns-clause-count : goal.returns-clause-count
+returns-clause-count c =
+    let es = c.args.self.now.nodes.items in
+    omega (arith, tree_len es c.requires.kept.sorted, tree_len c.sift.new.self.nodes.items c.sift.ensures.kept.sorted, ap (λ (ys : List Entry). length ys) c.as_slice-6.ensures.value, ap (λ (ys : List Entry). length ys) c.as_slice.ensures.value, c.as_slice.ensures.len, c.len-before.ensures)

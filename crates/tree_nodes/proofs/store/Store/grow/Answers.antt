@@ -1,0 +1,28 @@
+use Rattle.std.proofs.Common.{List, [], sym, subst, ap, ◌∙◌}
+use Rattle.std.specs.Prelude.{IsTrue, is_some}
+use Rattle.std.specs.FinMap.{find, from_sorted}
+use Rattle.khepri_terms.specs.Order.{path_cmp}
+use Rattle.khepri_types.specs.declared.node.Payload.{Payload}
+use Rattle.khepri_types.specs.Tree.{set}
+use Rattle.tree_nodes.proofs.Slots.{Entry}
+use Rattle.tree_nodes.proofs.Trees.{tree_get}
+use Rattle.tree_nodes.proofs.Ways.{absent_below, version-made}
+use Rattle.tree_nodes.proofs.store.Store.grow.Goals as goal
+
+pub standing_front-above-requires-clause-root : goal.standing_front-above-requires-clause-root
+standing_front-above-requires-clause-root c =
+    let es = c.args.self.now.nodes.items in
+    subst (λ (ys : List Entry). IsTrue (is_some (find path_cmp [] ys))) (sym c.as_slice.ensures.value) (sym (ap is_some (tree_get [] es c.requires.kept.sorted)) ∙ c.requires.kept.tree.root)
+
+pub standing_front-above-requires-clause-below : goal.standing_front-above-requires-clause-below
+standing_front-above-requires-clause-below c = absent_below c.args.self.now.nodes.items c.args.path.now c.requires.kept.sorted c.requires.kept.tree c.requires.absent
+
+pub returns-clause-tree : goal.returns-clause-tree
+returns-clause-tree c =
+    c.in_ok-build.ensures.built ∙ ap (λ (y : Payload). set (from_sorted {R = path_cmp} c.args.self.now.nodes.items) c.args.path.now y) c.in_ok-copy.ensures
+
+pub returns-clause-version : goal.returns-clause-version
+returns-clause-version c =
+    let es = c.args.self.now.nodes.items in
+    version-made es c.build.new.self.nodes.items c.args.path.now c.args.payload.now c.requires.kept.sorted c.requires.absent
+    (c.in_ok-build.ensures.built ∙ ap (λ (y : Payload). set (from_sorted {R = path_cmp} es) c.args.path.now y) c.in_ok-copy.ensures)

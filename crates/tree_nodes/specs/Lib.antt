@@ -1,0 +1,5 @@
+pub mod Kept
+pub mod Slots
+pub mod Next
+pub mod Drafts
+pub mod Cuts

@@ -1,0 +1,54 @@
+// Copies of nodes, with memory of their own.
+ghost use Rattle.std.specs.Prelude.{◌≡◌, IfOk};
+ghost use Rattle.khepri_types.specs.declared.node.Node.{Node};
+
+use khepri_terms::Path;
+use khepri_types::{Node, Watch, Watches};
+use std::alloc::{AllocError, Global};
+
+fn copy_watch(alloc: Global, watch: &Watch) -> Result<Watch, AllocError>
+    ensures { IfOk result (λ w. w ≡ watch.now) }
+{
+    Ok(Watch {
+        target: watch.target.copy()?,
+        cond: watch.cond.copy(alloc)?,
+    })
+}
+
+pub(crate) fn copy_watches(alloc: Global, watches: &[Watch]) -> Result<Watches, AllocError>
+    ensures { IfOk result (λ w. w ≡ watches.now) }
+{
+    let mut all = Vec::new(alloc);
+    for watch in watches {
+        all.push(copy_watch(alloc, watch)?)?;
+    }
+    Ok(Watches::from_vec(all))
+}
+
+fn copy_entry(alloc: Global, entry: &(Path, Node)) -> Result<(Path, Node), AllocError>
+    ensures { IfOk result (λ e. e ≡ entry.now) }
+{
+    let node = &entry.1;
+    Ok((
+        entry.0.copy()?,
+        Node {
+            payload: node.payload.copy()?,
+            pv: node.pv,
+            cv: node.cv,
+            watches: copy_watches(alloc, node.watches.as_slice())?,
+        },
+    ))
+}
+
+pub(crate) fn copy_nodes(
+    alloc: Global,
+    nodes: &[(Path, Node)],
+) -> Result<Vec<(Path, Node)>, AllocError>
+    ensures { IfOk result (λ v. v.items ≡ nodes.now) }
+{
+    let mut all = Vec::with_capacity(alloc, nodes.len())?;
+    for entry in nodes {
+        all.push(copy_entry(alloc, entry)?)?;
+    }
+    Ok(all)
+}

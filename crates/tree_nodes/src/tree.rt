@@ -1,0 +1,117 @@
+// The tree.
+ghost use Rattle.std.specs.Prelude.{◌≡◌, ◌+◌, IfOk, OnOk, IfSome, Some};
+ghost use Rattle.std.specs.Option.{option_copied};
+ghost use Rattle.std.specs.FinMap.{get, len};
+ghost use Rattle.khepri_terms.specs.Order.{name_cmp};
+ghost use Rattle.khepri_terms.specs.Lengths.{capped};
+ghost use Rattle.khepri_types.specs.Conditions.{seen_at};
+ghost use Rattle.khepri_types.specs.Sizes.{bytes};
+ghost use Rattle.khepri_types.specs.Tree.{IsTree, opening_tree};
+ghost use Rattle.khepri_types.specs.Views.{seen_of, node_of};
+ghost use Rattle.tree_nodes.specs.Kept.{IsShallow};
+ghost use Rattle.tree_nodes.specs.Next.{HasChild, IsNext};
+
+use crate::draft::{Changes, Draft};
+use crate::store::Store;
+use khepri_terms::{Name, Path};
+use khepri_types::NodeView;
+use std::alloc::{AllocError, Global};
+use std::marker::Model;
+use std::sync::ledger::Ledger;
+use step_count::Steps;
+
+/// The nodes by their paths. The root stands, with each path all its fronts, and no path has more than 32 names.
+#[derive(Drop)]
+pub struct Tree {
+    pub(crate) store: Store,
+}
+
+impl Model for Tree {
+    ghost use Rattle.std.specs.Coded.{codes};
+    ghost use Rattle.std.specs.FinMap.{from_sorted, code};
+    ghost use Rattle.khepri_terms.specs.Order.{path_cmp};
+    ghost use Rattle.khepri_types.specs.contracts.condition.Condition as condition;
+    ghost use Rattle.khepri_types.specs.Tree.{Tree as Nodes};
+    ghost use Rattle.tree_nodes.specs.Kept.{IsKept, nodes_bytes};
+    ghost use Rattle.std.specs.Prelude.{◌≡◌};
+
+    ghost Value = { Nodes };
+
+    ghost coded = { Prim.hlevel (code, codes, condition.the_row.coded) };
+
+    ghost view = { λ t. from_sorted {R = path_cmp} t.store.nodes.items };
+
+    ghost invariant = { λ t. IsKept t.store.nodes.items t.store.kids.items × (t.store.bytes ≡ nodes_bytes t.store.nodes.items) };
+}
+
+impl Tree {
+    /// The root alone, with no payload.
+    pub fn fresh(alloc: Global) -> Result<Tree, AllocError>
+        ensures { IfOk result (λ t. t ≡ opening_tree) }
+    {
+        Ok(Tree {
+            store: Store::fresh(alloc)?,
+        })
+    }
+
+    /// How many nodes stand.
+    pub fn nodes(&self) -> u64
+        ensures count { result ≡ len self.now }
+        ensures tree { IsTree self.now }
+        ensures shallow { IsShallow self.now }
+    {
+        self.store.len()
+    }
+
+    /// The bytes of all nodes; at 2^64 - 1 and beyond, 2^64 - 1.
+    pub fn bytes(&self) -> u64
+        ensures { result ≡ capped (bytes self.now) }
+    {
+        self.store.bytes()
+    }
+
+    /// The node at a path: one step.
+    pub fn node<L: Ledger>(&self, path: &Path, steps: &mut Steps<L>) -> Option<NodeView>
+        ensures node { seen_of result ≡ seen_at self.now path.now }
+        ensures watches { IfSome result (λ v. get self.now path.now ≡ Some (node_of v)) }
+        ensures steps { steps.new ≡ steps.old + 1 }
+    {
+        steps.tick();
+        self.store.node(path)
+    }
+
+    /// The least name of a child of the path that comes after the other name; the least of all after none: one step.
+    pub fn child_after<L: Ledger>(
+        &self,
+        path: &Path,
+        after: Option<&Name>,
+        steps: &mut Steps<L>,
+    ) -> Option<&Name>
+        ensures next { IsNext name_cmp (HasChild self.now path.now) (option_copied after.entry) (option_copied result) }
+        ensures steps { steps.new ≡ steps.old + 1 }
+    {
+        steps.tick();
+        self.store.child_after(path, after)
+    }
+
+    /// A draft of what the tree is to become. For now it copies all nodes.
+    pub fn draft(&self) -> Result<Draft, AllocError>
+        ensures base { IfOk result (λ d. d.base ≡ self.now) }
+        ensures tree { IfOk result (λ d. d.tree ≡ self.now) }
+    {
+        Draft::over(self)
+    }
+
+    /// The tree becomes what the draft came to from which the changes are. The draft's tree has to equal this one.
+    pub fn absorb<L: Ledger>(
+        &mut self,
+        changes: Changes,
+        steps: &mut Steps<L>,
+    ) -> Result<(), AllocError>
+        ensures tree { OnOk result (self.new ≡ changes.tree) }
+        ensures steps { steps.new ≡ steps.old }
+    {
+        self.store = changes.store;
+        Ok(())
+    }
+}
