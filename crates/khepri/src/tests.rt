@@ -1,71 +1,105 @@
-ghost use Rattle.std.specs.Prelude.{◌≡◌, ◌<◌, ◌≤◌, Some, length, IfOk, OnErr};
+// Whole runs over memory.
+mod tables;
+
+ghost use Rattle.std.specs.Prelude.{Some};
 
 use crate::run::run;
 use crate::status::Status;
 use line_io::{Failed, MemSink, MemSource, Sink, Source};
 use std::alloc::{AllocError, Global};
 use std::test::Fail;
+use tables::SESSIONS;
 
-// A source that gives one byte a call.
+// A source in memory; a slow one gives one byte a call.
 #[derive(Drop)]
-struct SlowSource {
+struct Feed {
     source: MemSource,
+    is_slow: bool,
 }
 
-impl Source for SlowSource {
+impl Source for Feed {
     ghost left = { λ s. Some s.source.left };
 
     ghost faults = { λ s. s.source.faults };
 
     fn take(&mut self, out: &mut [u8]) -> Result<usize, Failed> {
-        self.source.take(&mut out[..1])
+        if self.is_slow {
+            return self.source.take(&mut out[..1]);
+        }
+        self.source.take(out)
     }
 }
 
-// A sink that takes one byte a call.
+// A sink in memory; a slow one takes one byte a call.
 #[derive(Drop)]
-struct SlowSink {
+struct Drain {
     sink: MemSink,
+    is_slow: bool,
 }
 
-impl Sink for SlowSink {
+impl Sink for Drain {
     ghost held = { λ s. Some s.sink.bytes };
 
     ghost faults = { λ s. s.sink.faults };
 
     fn put(&mut self, bytes: &[u8]) -> Result<usize, Failed> {
-        self.sink.put(&bytes[..1])
-    }
-}
-
-const LINES: &str =
-    "@1 put /a/b {x=1}\n@1 put /a/b {x=1}\n@1 put /a/b {x=2}\n@1 get /a\n@1 put / {x=1}\n";
-
-// What is written first, and for each of these lines.
-const ANSWERS: [&str; 6] = [
-    "! 1 leads 1\n",
-    "# 1 @1 put /a/b {x=1}\n= 1 1 ok 1 0\n",
-    "# 2 @2 put /a/b {x=1}\n= 2 2 ok 1 0\n",
-    "# 3 @3 put /a/b {x=2}\n= 3 3 ok 2 0\n",
-    "# 4 @4 get /a\n= 4 4 node 1 1 1 -\n",
-    "# 5 @5 put / {x=1}\n= 5 5 ok 2 0\n",
-];
-
-const USAGE: &str =
-    "khepri: session [--nodes N] | audit | gen --lines C --seed X | serve --port P --nodes N --workers W --connections C\n";
-
-// What is written where this many of the lines were answered.
-fn answers(alloc: Global, lines: usize) -> Result<Vec<u8>, AllocError> {
-    let mut text = Vec::new(alloc);
-    for (i, answer) in ANSWERS.iter().enumerate() {
-        if i <= lines {
-            text.extend_from_slice(answer.as_bytes())?;
+        if self.is_slow {
+            return self.sink.put(&bytes[..1]);
         }
+        self.sink.put(bytes)
     }
-    Ok(text)
 }
 
-fn words(alloc: Global, given: &[&str]) -> Result<Vec<String>, AllocError> {
+// How a run goes: whether its source and its sink are slow, and which call of each fails, counted from 1; 0 is none.
+#[derive(Clone, Copy)]
+struct Way {
+    is_slow: bool,
+    failing_take: u64,
+    failing_put: u64,
+}
+
+const FAST: Way = Way {
+    is_slow: false,
+    failing_take: 0,
+    failing_put: 0,
+};
+
+const SLOW: Way = Way {
+    is_slow: true,
+    failing_take: 0,
+    failing_put: 0,
+};
+
+// How a run ended, and what it wrote.
+#[derive(Drop)]
+struct Ran {
+    status: Status,
+    sink: Drain,
+}
+
+impl Ran {
+    fn is(&self, status: Status, written: &[u8]) -> bool {
+        self.status == status && self.sink.sink.bytes() == written
+    }
+}
+
+fn source(alloc: Global, input: &[u8], way: Way) -> Result<Feed, AllocError> {
+    let fails = vec![in alloc; way.failing_take]?;
+    Ok(Feed {
+        source: MemSource::new(Vec::from_slice(alloc, input)?, fails),
+        is_slow: way.is_slow,
+    })
+}
+
+fn sink(alloc: Global, way: Way) -> Result<Drain, AllocError> {
+    let fails = vec![in alloc; way.failing_put]?;
+    Ok(Drain {
+        sink: MemSink::new(Vec::new(alloc), fails),
+        is_slow: way.is_slow,
+    })
+}
+
+fn words_of(alloc: Global, given: &[&str]) -> Result<Vec<String>, AllocError> {
     let mut words = Vec::new(alloc);
     for word in given {
         words.push(String::from_str(alloc, word)?)?;
@@ -73,931 +107,345 @@ fn words(alloc: Global, given: &[&str]) -> Result<Vec<String>, AllocError> {
     Ok(words)
 }
 
-fn one(alloc: Global, number: u64) -> Result<Vec<u64>, AllocError> {
-    let mut numbers = Vec::new(alloc);
-    numbers.push(number)?;
-    Ok(numbers)
-}
-
-fn source(alloc: Global, text: &str, fails: Vec<u64>) -> Result<MemSource, AllocError> {
-    Ok(MemSource::new(Vec::from_slice(alloc, text.as_bytes())?, fails))
-}
-
-fn sink(alloc: Global, fails: Vec<u64>) -> MemSink {
-    MemSink::new(Vec::new(alloc), fails)
-}
-
-fn count_ends(bytes: &[u8]) -> usize {
-    bytes.iter().filter(|b| **b == b'\n').count()
-}
-
-// Sessions: what is read, and what is written behind the first line.
-const SESSIONS: [(&str, &str); 17] = [
-    ("", ""),
-    // CR LF, and a last line without LF
-    (
-        "@1 put /a -\r\n@1 get /a",
-        "# 1 @1 put /a -\n= 1 1 ok 1 0\n# 2 @2 get /a\n= 2 2 node 1 1 0 -\n",
-    ),
-    (
-        "\r\n\n@1 get /\r\n@1 get /\r",
-        "- 1 badline\n- 2 badline\n# 1 @3 get /\n= 3 1 node 1 1 0 -\n- 4 badline\n",
-    ),
-    // versions
-    (
-        "@1 put /a/b {x=1}\n@1 put /a/b {x=1}\n@1 put /a/b {x=2}\n@1 put /a/c -\n@1 get /a\n@1 del /a/b\n@1 get /a\n@1 get /\n",
-        "# 1 @1 put /a/b {x=1}\n= 1 1 ok 1 0\n# 2 @2 put /a/b {x=1}\n= 2 2 ok 1 0\n# 3 @3 put /a/b {x=2}\n= 3 3 ok 2 0\n\
-         # 4 @4 put /a/c -\n= 4 4 ok 1 0\n# 5 @5 get /a\n= 5 5 node 1 2 2 -\n# 6 @6 del /a/b\n= 6 6 ok 1 0\n\
-         # 7 @7 get /a\n= 7 7 node 1 3 1 -\n# 8 @8 get /\n= 8 8 node 1 2 1 -\n",
-    ),
-    // both kinds of name, and refusals
-    (
-        "@1 put /vhosts/%2F {}\n@1 put /:a/%2E -\n@1 get /%2f\n@1 put /%61 -\n@1 create /a {x=1}\n@1 create /a {x=2}\n\
-         @1 clear /a\n@1 clear /z\n@2 get /\n",
-        "# 1 @1 put /vhosts/%2F {}\n= 1 1 ok 1 0\n# 2 @2 put /:a/%2E -\n= 2 2 ok 1 0\n- 3 badline\n- 4 badline\n\
-         # 3 @5 create /a {x=1}\n= 5 3 ok 1 0\n# 4 @6 create /a {x=2}\n= 6 4 no exists\n\
-         # 5 @7 clear /a\n= 7 5 ok 2 0\n# 6 @8 clear /z\n= 8 6 no absent\n- 9 nonode\n",
-    ),
-    // every refusal of a command and of a line
-    (
-        "@1 create /a {x=1}\n@1 create /a {x=2}\n@1 update /z -\n@1 del /\n@1 del /z\n@1 clear /z\n@1 get /z\nput /a\n\
-         @1 put /a/../b -\n@8 get /\n@9 put /a/../b -\n@0 get /\n@1 get /a\n",
-        "# 1 @1 create /a {x=1}\n= 1 1 ok 1 0\n# 2 @2 create /a {x=2}\n= 2 2 no exists\n# 3 @3 update /z -\n= 3 3 no absent\n\
-         # 4 @4 del /\n= 4 4 no root\n# 5 @5 del /z\n= 5 5 ok 0 0\n# 6 @6 clear /z\n= 6 6 no absent\n\
-         # 7 @7 get /z\n= 7 7 no absent\n- 8 badline\n- 9 badline\n- 10 nonode\n- 11 badline\n- 12 badline\n\
-         # 8 @13 get /a\n= 13 8 node 1 1 0 {x=1}\n",
-    ),
-    // a deletion takes what is below, and what is made anew begins anew
-    (
-        "@1 put /q/a/b {n=1}\n@1 put /q/a/b {n=2}\n@1 put /q/a-b -\n@1 del /q/a\n@1 get /q\n@1 get /q/a/b\n@1 get /q/a-b\n\
-         @1 put /q/a/b {n=2}\n@1 get /q/a/b\n@1 del /q\n@1 get /\n",
-        "# 1 @1 put /q/a/b {n=1}\n= 1 1 ok 1 0\n# 2 @2 put /q/a/b {n=2}\n= 2 2 ok 2 0\n# 3 @3 put /q/a-b -\n= 3 3 ok 1 0\n\
-         # 4 @4 del /q/a\n= 4 4 ok 2 0\n# 5 @5 get /q\n= 5 5 node 1 3 1 -\n# 6 @6 get /q/a/b\n= 6 6 no absent\n\
-         # 7 @7 get /q/a-b\n= 7 7 node 1 1 0 -\n# 8 @8 put /q/a/b {n=2}\n= 8 8 ok 1 0\n\
-         # 9 @9 get /q/a/b\n= 9 9 node 1 1 0 {n=2}\n# 10 @10 del /q\n= 10 10 ok 4 0\n\
-         # 11 @11 get /\n= 11 11 node 1 3 0 -\n",
-    ),
-    // a payload without fields is not an empty payload, and the root has a payload of its own
-    (
-        "@1 put / {}\n@1 put / -\n@1 update / -\n@1 create / -\n@1 clear /\n@1 get /\n",
-        "# 1 @1 put / {}\n= 1 1 ok 2 0\n# 2 @2 put / -\n= 2 2 ok 3 0\n# 3 @3 update / -\n= 3 3 ok 3 0\n\
-         # 4 @4 create / -\n= 4 4 no exists\n# 5 @5 clear /\n= 5 5 ok 3 0\n# 6 @6 get /\n= 6 6 node 3 1 0 -\n",
-    ),
-    // 32 and 33 names
-    (
-        "@1 put /1/2/3/4/5/6/7/8/9/0/1/2/3/4/5/6/7/8/9/0/1/2/3/4/5/6/7/8/9/0/1/2 -\n\
-         @1 put /1/2/3/4/5/6/7/8/9/0/1/2/3/4/5/6/7/8/9/0/1/2/3/4/5/6/7/8/9/0/1/2/3 -\n\
-         @1 create /1/2/3/4/5/6/7/8/9/0/1/2/3/4/5/6/7/8/9/0/1/2/3/4/5/6/7/8/9/0/1/2/3 -\n\
-         @1 update /1/2/3/4/5/6/7/8/9/0/1/2/3/4/5/6/7/8/9/0/1/2/3/4/5/6/7/8/9/0/1/2/3 -\n\
-         @1 get /1/2/3/4/5/6/7/8/9/0/1/2/3/4/5/6/7/8/9/0/1/2/3/4/5/6/7/8/9/0/1/2/3\n\
-         @1 clear /1/2/3/4/5/6/7/8/9/0/1/2/3/4/5/6/7/8/9/0/1/2/3/4/5/6/7/8/9/0/1/2/3\n\
-         @1 del /1/2/3/4/5/6/7/8/9/0/1/2/3/4/5/6/7/8/9/0/1/2/3/4/5/6/7/8/9/0/1/2/3\n\
-         @1 del /1\n",
-        "# 1 @1 put /1/2/3/4/5/6/7/8/9/0/1/2/3/4/5/6/7/8/9/0/1/2/3/4/5/6/7/8/9/0/1/2 -\n= 1 1 ok 1 0\n\
-         # 2 @2 put /1/2/3/4/5/6/7/8/9/0/1/2/3/4/5/6/7/8/9/0/1/2/3/4/5/6/7/8/9/0/1/2/3 -\n= 2 2 no deep\n\
-         # 3 @3 create /1/2/3/4/5/6/7/8/9/0/1/2/3/4/5/6/7/8/9/0/1/2/3/4/5/6/7/8/9/0/1/2/3 -\n= 3 3 no deep\n\
-         # 4 @4 update /1/2/3/4/5/6/7/8/9/0/1/2/3/4/5/6/7/8/9/0/1/2/3/4/5/6/7/8/9/0/1/2/3 -\n= 4 4 no deep\n\
-         # 5 @5 get /1/2/3/4/5/6/7/8/9/0/1/2/3/4/5/6/7/8/9/0/1/2/3/4/5/6/7/8/9/0/1/2/3\n= 5 5 no absent\n\
-         # 6 @6 clear /1/2/3/4/5/6/7/8/9/0/1/2/3/4/5/6/7/8/9/0/1/2/3/4/5/6/7/8/9/0/1/2/3\n= 6 6 no absent\n\
-         # 7 @7 del /1/2/3/4/5/6/7/8/9/0/1/2/3/4/5/6/7/8/9/0/1/2/3/4/5/6/7/8/9/0/1/2/3\n= 7 7 ok 0 0\n\
-         # 8 @8 del /1\n= 8 8 ok 32 0\n",
-    ),
-    // mutual watches
-    (
-        "@1 put /b -\n\
-         @1 put /a - while /b exists\n\
-         @1 put /b - while /a exists\n\
-         @1 get /b\n\
-         @1 del /a\n\
-         @1 count /**\n",
-        "# 1 @1 put /b -\n\
-         = 1 1 ok 1 0\n\
-         # 2 @2 put /a - while /b exists\n\
-         = 2 2 ok 1 0\n\
-         # 3 @3 put /b - while /a exists\n\
-         = 3 3 ok 1 0\n\
-         # 4 @4 get /b\n\
-         = 4 4 node 1 1 0 -\n\
-         # 5 @5 del /a\n\
-         = 5 5 ok 1 1\n\
-         # 6 @6 count /**\n\
-         = 6 6 count 0\n",
-    ),
-    // a watch on itself
-    (
-        "@1 put /s - while /s kids(gt,0)\n\
-         @1 get /s\n\
-         @1 put /s - while /s exists\n\
-         @1 get /s\n",
-        "# 1 @1 put /s - while /s kids(gt,0)\n\
-         = 1 1 no while /s\n\
-         # 2 @2 get /s\n\
-         = 2 2 no absent\n\
-         # 3 @3 put /s - while /s exists\n\
-         = 3 3 ok 1 0\n\
-         # 4 @4 get /s\n\
-         = 4 4 node 1 1 0 -\n",
-    ),
-    // rounds decide
-    (
-        "@1 put /p/1 -\n\
-         @1 put /p/2 -\n\
-         @1 put /p - while /p/1 exists\n\
-         @1 put /w - while /p any(absent,kids(ge,2))\n\
-         @1 del /p/1\n\
-         @1 count /**\n",
-        "# 1 @1 put /p/1 -\n\
-         = 1 1 ok 1 0\n\
-         # 2 @2 put /p/2 -\n\
-         = 2 2 ok 1 0\n\
-         # 3 @3 put /p - while /p/1 exists\n\
-         = 3 3 ok 1 0\n\
-         # 4 @4 put /w - while /p any(absent,kids(ge,2))\n\
-         = 4 4 ok 1 0\n\
-         # 5 @5 del /p/1\n\
-         = 5 5 ok 1 3\n\
-         # 6 @6 count /**\n\
-         = 6 6 count 0\n",
-    ),
-    // a put that breaks its parent
-    (
-        "@1 put /g/1 -\n\
-         @1 put /g/2 -\n\
-         @1 put /g - while /g kids(le,2)\n\
-         @1 put /g/3 -\n\
-         @1 get /g/3\n",
-        "# 1 @1 put /g/1 -\n\
-         = 1 1 ok 1 0\n\
-         # 2 @2 put /g/2 -\n\
-         = 2 2 ok 1 0\n\
-         # 3 @3 put /g - while /g kids(le,2)\n\
-         = 3 3 ok 1 0\n\
-         # 4 @4 put /g/3 -\n\
-         = 4 4 ok 1 4\n\
-         # 5 @5 get /g/3\n\
-         = 5 5 no absent\n",
-    ),
-    // counts
-    (
-        "@1 put /a/b/c {}\n\
-         @1 count /**\n\
-         @1 count /*/**\n\
-         @1 count /**/c\n\
-         @1 count /\n\
-         @1 count /[kids(ge,1)]\n\
-         @1 count /[any()]\n\
-         @1 count /[all()]\n",
-        "# 1 @1 put /a/b/c {}\n\
-         = 1 1 ok 1 0\n\
-         # 2 @2 count /**\n\
-         = 2 2 count 3\n\
-         # 3 @3 count /*/**\n\
-         = 3 3 count 2\n\
-         # 4 @4 count /**/c\n\
-         = 4 4 count 1\n\
-         # 5 @5 count /\n\
-         = 5 5 count 1\n\
-         # 6 @6 count /[kids(ge,1)]\n\
-         = 6 6 count 1\n\
-         # 7 @7 count /[any()]\n\
-         = 7 7 count 0\n\
-         # 8 @8 count /[all()]\n\
-         = 8 8 count 1\n",
-    ),
-    // refusals
-    (
-        "@1 create /a {x=1}\n\
-         @1 create /a {x=2}\n\
-         @1 update /z -\n\
-         @1 cas /a field(x,eq,2) {x=3}\n\
-         @1 cas /a all(data,pv(eq,1)) {x=3}\n\
-         @1 del /\n\
-         @1 del /z\n\
-         @1 put /b - while /z exists\n\
-         @1 many /* 1\n\
-         @1 delmany /[name(a*)]\n\
-         @1 clear /a\n\
-         put /a\n\
-         @1 put /a/../b -\n",
-        "# 1 @1 create /a {x=1}\n\
-         = 1 1 ok 1 0\n\
-         # 2 @2 create /a {x=2}\n\
-         = 2 2 no exists\n\
-         # 3 @3 update /z -\n\
-         = 3 3 no absent\n\
-         # 4 @4 cas /a field(x,eq,2) {x=3}\n\
-         = 4 4 no mismatch\n\
-         # 5 @5 cas /a all(data,pv(eq,1)) {x=3}\n\
-         = 5 5 ok 2 0\n\
-         # 6 @6 del /\n\
-         = 6 6 no root\n\
-         # 7 @7 del /z\n\
-         = 7 7 ok 0 0\n\
-         # 8 @8 put /b - while /z exists\n\
-         = 8 8 no while /z\n\
-         # 9 @9 many /* 1\n\
-         = 9 9 nodes 1 /a 2 1 0 {x=3}\n\
-         # 10 @10 delmany /[name(a*)]\n\
-         = 10 10 ok 1 0\n\
-         # 11 @11 clear /a\n\
-         = 11 11 no absent\n\
-         - 12 badline\n\
-         - 13 badline\n",
-    ),
-    // what is said of watches
-    (
-        "@1 put / - free\n\
-         @1 put / - while /a exists\n\
-         @1 put /a - free\n\
-         @1 put /t -\n\
-         @1 put /a - while /t exists while /a exists\n\
-         @1 put /a {}\n\
-         @1 put /a - free\n\
-         @1 del /t\n\
-         @1 get /a\n\
-         @1 cas /a not(exists) -\n\
-         @1 cas /z not(exists) - while /t exists\n\
-         @1 cas /z not(exists) - while /a exists\n\
-         @1 delmany /[absent]\n\
-         @1 delmany /*\n",
-        "# 1 @1 put / - free\n\
-         = 1 1 no root\n\
-         # 2 @2 put / - while /a exists\n\
-         = 2 2 no root\n\
-         # 3 @3 put /a - free\n\
-         = 3 3 ok 1 0\n\
-         # 4 @4 put /t -\n\
-         = 4 4 ok 1 0\n\
-         # 5 @5 put /a - while /t exists while /a exists\n\
-         = 5 5 ok 1 0\n\
-         # 6 @6 put /a {}\n\
-         = 6 6 ok 2 0\n\
-         # 7 @7 put /a - free\n\
-         = 7 7 ok 3 0\n\
-         # 8 @8 del /t\n\
-         = 8 8 ok 1 0\n\
-         # 9 @9 get /a\n\
-         = 9 9 node 3 1 0 -\n\
-         # 10 @10 cas /a not(exists) -\n\
-         = 10 10 no mismatch\n\
-         # 11 @11 cas /z not(exists) - while /t exists\n\
-         = 11 11 no while /t\n\
-         # 12 @12 cas /z not(exists) - while /a exists\n\
-         = 12 12 ok 1 0\n\
-         # 13 @13 delmany /[absent]\n\
-         = 13 13 ok 0 0\n\
-         # 14 @14 delmany /*\n\
-         = 14 14 ok 2 0\n",
-    ),
-    // a target of 33 names
-    (
-        "@1 put /a - while /1/2/3/4/5/6/7/8/9/0/1/2/3/4/5/6/7/8/9/0/1/2/3/4/5/6/7/8/9/0/1/2/3 absent\n\
-         @1 put /a - while /1/2/3/4/5/6/7/8/9/0/1/2/3/4/5/6/7/8/9/0/1/2/3/4/5/6/7/8/9/0/1/2 absent\n",
-        "# 1 @1 put /a - while /1/2/3/4/5/6/7/8/9/0/1/2/3/4/5/6/7/8/9/0/1/2/3/4/5/6/7/8/9/0/1/2/3 absent\n\
-         = 1 1 no deep\n\
-         # 2 @2 put /a - while /1/2/3/4/5/6/7/8/9/0/1/2/3/4/5/6/7/8/9/0/1/2/3/4/5/6/7/8/9/0/1/2 absent\n\
-         = 2 2 ok 1 0\n",
-    ),
-];
-
-// The example of README.md, and those of docs/LANGUAGE.md in its order.
-const EXAMPLES: [(&str, &str); 14] = [
-    // a broker's day
-    (
-        "@1 put /vhosts/%2F {}\n\
-         @1 put /vhosts/%2F/exchanges/logs {type='topic}\n\
-         @1 put /vhosts/%2F/queues/q1 {durable=1}\n\
-         @1 create /vhosts/%2F/exchanges/logs/b1 {key='app.%2A,to='q1} while /vhosts/%2F/queues/q1 exists\n\
-         @1 create /vhosts/%2F/queues/q1 {durable=0}\n\
-         @1 cas /vhosts/%2F/queues/q1 field(durable,eq,1) {durable=0}\n\
-         @1 many /vhosts/*/queues/[data] 10\n\
-         @1 count /vhosts/*/exchanges/*/*\n\
-         @1 del /vhosts/%2F/queues/q1\n\
-         @1 get /vhosts/%2F/exchanges/logs/b1\n",
-        "# 1 @1 put /vhosts/%2F {}\n\
-         = 1 1 ok 1 0\n\
-         # 2 @2 put /vhosts/%2F/exchanges/logs {type='topic}\n\
-         = 2 2 ok 1 0\n\
-         # 3 @3 put /vhosts/%2F/queues/q1 {durable=1}\n\
-         = 3 3 ok 1 0\n\
-         # 4 @4 create /vhosts/%2F/exchanges/logs/b1 {key='app.%2A,to='q1} while /vhosts/%2F/queues/q1 exists\n\
-         = 4 4 ok 1 0\n\
-         # 5 @5 create /vhosts/%2F/queues/q1 {durable=0}\n\
-         = 5 5 no exists\n\
-         # 6 @6 cas /vhosts/%2F/queues/q1 field(durable,eq,1) {durable=0}\n\
-         = 6 6 ok 2 0\n\
-         # 7 @7 many /vhosts/*/queues/[data] 10\n\
-         = 7 7 nodes 1 /vhosts/%2F/queues/q1 2 1 0 {durable=0}\n\
-         # 8 @8 count /vhosts/*/exchanges/*/*\n\
-         = 8 8 count 1\n\
-         # 9 @9 del /vhosts/%2F/queues/q1\n\
-         = 9 9 ok 1 1\n\
-         # 10 @10 get /vhosts/%2F/exchanges/logs/b1\n\
-         = 10 10 no absent\n",
-    ),
-    // put
-    (
-        "@1 put /vhosts/%2F/queues/q1 {durable=1}\n\
-         @1 put /vhosts/%2F/queues/q1 {durable=1}\n\
-         @1 put /vhosts/%2F/queues/q1 {durable=0}\n\
-         @1 put /vhosts/%2F -\n\
-         @1 get /vhosts/%2F\n\
-         @1 put /1/2/3/4/5/6/7/8/9/10/11/12/13/14/15/16/17/18/19/20/21/22/23/24/25/26/27/28/29/30/31/32/33 -\n",
-        "# 1 @1 put /vhosts/%2F/queues/q1 {durable=1}\n\
-         = 1 1 ok 1 0\n\
-         # 2 @2 put /vhosts/%2F/queues/q1 {durable=1}\n\
-         = 2 2 ok 1 0\n\
-         # 3 @3 put /vhosts/%2F/queues/q1 {durable=0}\n\
-         = 3 3 ok 2 0\n\
-         # 4 @4 put /vhosts/%2F -\n\
-         = 4 4 ok 1 0\n\
-         # 5 @5 get /vhosts/%2F\n\
-         = 5 5 node 1 1 1 -\n\
-         # 6 @6 put /1/2/3/4/5/6/7/8/9/10/11/12/13/14/15/16/17/18/19/20/21/22/23/24/25/26/27/28/29/30/31/32/33 -\n\
-         = 6 6 no deep\n",
-    ),
-    // create
-    (
-        "@1 create /services/mail {port=25}\n\
-         @1 create /services/mail {port=587}\n\
-         @1 create / -\n",
-        "# 1 @1 create /services/mail {port=25}\n\
-         = 1 1 ok 1 0\n\
-         # 2 @2 create /services/mail {port=587}\n\
-         = 2 2 no exists\n\
-         # 3 @3 create / -\n\
-         = 3 3 no exists\n",
-    ),
-    // update
-    (
-        "@1 update /services/mail {port=25}\n\
-         @1 put /services/mail {port=25}\n\
-         @1 update /services/mail {port=587}\n",
-        "# 1 @1 update /services/mail {port=25}\n\
-         = 1 1 no absent\n\
-         # 2 @2 put /services/mail {port=25}\n\
-         = 2 2 ok 1 0\n\
-         # 3 @3 update /services/mail {port=587}\n\
-         = 3 3 ok 2 0\n",
-    ),
-    // clear
-    (
-        "@1 clear /a\n\
-         @1 put /a {x=1}\n\
-         @1 clear /a\n\
-         @1 clear /a\n\
-         @1 get /a\n",
-        "# 1 @1 clear /a\n\
-         = 1 1 no absent\n\
-         # 2 @2 put /a {x=1}\n\
-         = 2 2 ok 1 0\n\
-         # 3 @3 clear /a\n\
-         = 3 3 ok 2 0\n\
-         # 4 @4 clear /a\n\
-         = 4 4 ok 2 0\n\
-         # 5 @5 get /a\n\
-         = 5 5 node 2 1 0 -\n",
-    ),
-    // get
-    (
-        "@1 put /:amq/fanout {type='fanout}\n\
-         @1 get /:amq/fanout\n\
-         @1 get /:amq\n\
-         @1 get /amq\n\
-         @1 get /\n",
-        "# 1 @1 put /:amq/fanout {type='fanout}\n\
-         = 1 1 ok 1 0\n\
-         # 2 @2 get /:amq/fanout\n\
-         = 2 2 node 1 1 0 {type='fanout}\n\
-         # 3 @3 get /:amq\n\
-         = 3 3 node 1 1 1 -\n\
-         # 4 @4 get /amq\n\
-         = 4 4 no absent\n\
-         # 5 @5 get /\n\
-         = 5 5 node 1 2 1 -\n",
-    ),
-    // del
-    (
-        "@1 put /x/1 -\n\
-         @1 put /x/2/3 -\n\
-         @1 del /x/2\n\
-         @1 get /x\n\
-         @1 del /x\n\
-         @1 del /x\n\
-         @1 del /\n",
-        "# 1 @1 put /x/1 -\n\
-         = 1 1 ok 1 0\n\
-         # 2 @2 put /x/2/3 -\n\
-         = 2 2 ok 1 0\n\
-         # 3 @3 del /x/2\n\
-         = 3 3 ok 2 0\n\
-         # 4 @4 get /x\n\
-         = 4 4 node 1 3 1 -\n\
-         # 5 @5 del /x\n\
-         = 5 5 ok 2 0\n\
-         # 6 @6 del /x\n\
-         = 6 6 ok 0 0\n\
-         # 7 @7 del /\n\
-         = 7 7 no root\n",
-    ),
-    // cas
-    (
-        "@1 cas /lock absent {owner='n1}\n\
-         @1 cas /lock absent {owner='n2}\n\
-         @1 cas /lock field(owner,eq,'n1) {owner='n2}\n\
-         @1 cas /lock all(is({owner='n2}),pv(eq,2)) -\n\
-         @1 get /lock\n",
-        "# 1 @1 cas /lock absent {owner='n1}\n\
-         = 1 1 ok 1 0\n\
-         # 2 @2 cas /lock absent {owner='n2}\n\
-         = 2 2 no mismatch\n\
-         # 3 @3 cas /lock field(owner,eq,'n1) {owner='n2}\n\
-         = 3 3 ok 2 0\n\
-         # 4 @4 cas /lock all(is({owner='n2}),pv(eq,2)) -\n\
-         = 4 4 ok 3 0\n\
-         # 5 @5 get /lock\n\
-         = 5 5 node 3 1 0 -\n",
-    ),
-    // many and count
-    (
-        "@1 put /q/a {len=3}\n\
-         @1 put /q/b {len=70}\n\
-         @1 put /q/c/d -\n\
-         @1 count /**\n\
-         @1 many /q/* 2\n\
-         @1 many /q/[field(len,gt,10)] 10\n\
-         @1 count /**/[not(payload)]\n\
-         @1 count /\n",
-        "# 1 @1 put /q/a {len=3}\n\
-         = 1 1 ok 1 0\n\
-         # 2 @2 put /q/b {len=70}\n\
-         = 2 2 ok 1 0\n\
-         # 3 @3 put /q/c/d -\n\
-         = 3 3 ok 1 0\n\
-         # 4 @4 count /**\n\
-         = 4 4 count 5\n\
-         # 5 @5 many /q/* 2\n\
-         = 5 5 nodes 3 /q/a 1 1 0 {len=3} /q/b 1 1 0 {len=70}\n\
-         # 6 @6 many /q/[field(len,gt,10)] 10\n\
-         = 6 6 nodes 1 /q/b 1 1 0 {len=70}\n\
-         # 7 @7 count /**/[not(payload)]\n\
-         = 7 7 count 2\n\
-         # 8 @8 count /\n\
-         = 8 8 count 1\n",
-    ),
-    // delmany
-    (
-        "@1 put /tmp/a1 -\n\
-         @1 put /tmp/a2/x -\n\
-         @1 put /tmp/b -\n\
-         @1 delmany /tmp/[name(a*)]\n\
-         @1 get /tmp\n\
-         @1 delmany /tmp/**\n\
-         @1 delmany /\n",
-        "# 1 @1 put /tmp/a1 -\n\
-         = 1 1 ok 1 0\n\
-         # 2 @2 put /tmp/a2/x -\n\
-         = 2 2 ok 1 0\n\
-         # 3 @3 put /tmp/b -\n\
-         = 3 3 ok 1 0\n\
-         # 4 @4 delmany /tmp/[name(a*)]\n\
-         = 4 4 ok 3 0\n\
-         # 5 @5 get /tmp\n\
-         = 5 5 node 1 4 1 -\n\
-         # 6 @6 delmany /tmp/**\n\
-         = 6 6 ok 1 0\n\
-         # 7 @7 delmany /\n\
-         = 7 7 no root\n",
-    ),
-    // Watches
-    (
-        "@1 put /queues/q1 {durable=1}\n\
-         @1 create /bindings/b1 {to='q1} while /queues/q1 exists\n\
-         @1 put /bindings/b1 {key='x,to='q1}\n\
-         @1 del /queues/q1\n\
-         @1 get /bindings/b1\n\
-         @1 put /bindings/b2 {to='q1} while /queues/q1 exists\n",
-        "# 1 @1 put /queues/q1 {durable=1}\n\
-         = 1 1 ok 1 0\n\
-         # 2 @2 create /bindings/b1 {to='q1} while /queues/q1 exists\n\
-         = 2 2 ok 1 0\n\
-         # 3 @3 put /bindings/b1 {key='x,to='q1}\n\
-         = 3 3 ok 2 0\n\
-         # 4 @4 del /queues/q1\n\
-         = 4 4 ok 1 1\n\
-         # 5 @5 get /bindings/b1\n\
-         = 5 5 no absent\n\
-         # 6 @6 put /bindings/b2 {to='q1} while /queues/q1 exists\n\
-         = 6 6 no while /queues/q1\n",
-    ),
-    // Watches
-    (
-        "@1 put /p/1 -\n\
-         @1 put /p/2 -\n\
-         @1 put /p - while /p/1 exists\n\
-         @1 put /w - while /p any(absent,kids(ge,2))\n\
-         @1 del /p/1\n",
-        "# 1 @1 put /p/1 -\n\
-         = 1 1 ok 1 0\n\
-         # 2 @2 put /p/2 -\n\
-         = 2 2 ok 1 0\n\
-         # 3 @3 put /p - while /p/1 exists\n\
-         = 3 3 ok 1 0\n\
-         # 4 @4 put /w - while /p any(absent,kids(ge,2))\n\
-         = 4 4 ok 1 0\n\
-         # 5 @5 del /p/1\n\
-         = 5 5 ok 1 3\n",
-    ),
-    // Watches
-    (
-        "@1 put /g/1 -\n\
-         @1 put /g/2 -\n\
-         @1 put /g - while /g kids(le,2)\n\
-         @1 put /g/3 -\n\
-         @1 get /g\n",
-        "# 1 @1 put /g/1 -\n\
-         = 1 1 ok 1 0\n\
-         # 2 @2 put /g/2 -\n\
-         = 2 2 ok 1 0\n\
-         # 3 @3 put /g - while /g kids(le,2)\n\
-         = 3 3 ok 1 0\n\
-         # 4 @4 put /g/3 -\n\
-         = 4 4 ok 1 4\n\
-         # 5 @5 get /g\n\
-         = 5 5 no absent\n",
-    ),
-    // Lines out
-    (
-        "@1 get /%2f\n\
-         @1 put /a/../b -\n\
-         @1 put /a  {}\n\
-         @1 put /a {y=1,x=1}\n\
-         @2 get /\n\
-         @1 get /\n",
-        "- 1 badline\n\
-         - 2 badline\n\
-         - 3 badline\n\
-         - 4 badline\n\
-         - 5 nonode\n\
-         # 1 @6 get /\n\
-         = 6 1 node 1 1 0 -\n",
-    ),
-];
-
-// Patterns against small trees: what makes the tree, and for each pattern the nodes that it matches, worked out by hand.
-const PATTERNS: [(&str, &[(&str, &str)]); 3] = [
-    (
-        "@1 put /a/b/c {}\n",
-        &[
-            ("/", "nodes 1 / 1 2 1 -"),
-            ("/**", "nodes 3 /a 1 1 1 - /a/b 1 1 1 - /a/b/c 1 1 0 {}"),
-            ("/*/**", "nodes 2 /a/b 1 1 1 - /a/b/c 1 1 0 {}"),
-            ("/**/c", "nodes 1 /a/b/c 1 1 0 {}"),
-            ("/[kids(ge,1)]", "nodes 1 /a 1 1 1 -"),
-            ("/[any()]", "nodes 0"),
-            ("/[all()]", "nodes 1 /a 1 1 1 -"),
-            ("/*", "nodes 1 /a 1 1 1 -"),
-            ("/a", "nodes 1 /a 1 1 1 -"),
-            ("/b", "nodes 0"),
-            ("/a/b/c", "nodes 1 /a/b/c 1 1 0 {}"),
-            ("/a/**", "nodes 2 /a/b 1 1 1 - /a/b/c 1 1 0 {}"),
-            ("/a/b/c/**", "nodes 0"),
-            ("/**/**", "nodes 2 /a/b 1 1 1 - /a/b/c 1 1 0 {}"),
-            ("/**/**/**", "nodes 1 /a/b/c 1 1 0 {}"),
-            ("/**/**/**/**", "nodes 0"),
-            ("/*/*/*", "nodes 1 /a/b/c 1 1 0 {}"),
-            ("/**/*", "nodes 2 /a/b 1 1 1 - /a/b/c 1 1 0 {}"),
-            ("/**/b/*", "nodes 1 /a/b/c 1 1 0 {}"),
-            ("/**/a", "nodes 0"),
-            ("/**/[data]", "nodes 1 /a/b/c 1 1 0 {}"),
-            ("/**/[not(payload)]", "nodes 1 /a/b 1 1 1 -"),
-            ("/[absent]", "nodes 0"),
-            ("/**/[not(absent)]", "nodes 2 /a/b 1 1 1 - /a/b/c 1 1 0 {}"),
-        ],
-    ),
-    (
-        "@1 put /q/a {n=5,t='x}\n\
-         @1 put /q/b {n=10}\n\
-         @1 put /q/:a {n='5}\n\
-         @1 put /q/ab -\n\
-         @1 put /q/b {n=11}\n",
-        &[
-            (
-                "/q/*",
-                "nodes 4 /q/:a 1 1 0 {n='5} /q/a 1 1 0 {n=5,t='x} /q/ab 1 1 0 - /q/b 2 1 0 {n=11}",
-            ),
-            ("/q/a", "nodes 1 /q/a 1 1 0 {n=5,t='x}"),
-            ("/q/:a", "nodes 1 /q/:a 1 1 0 {n='5}"),
-            (
-                "/q/[name(*)]",
-                "nodes 3 /q/a 1 1 0 {n=5,t='x} /q/ab 1 1 0 - /q/b 2 1 0 {n=11}",
-            ),
-            ("/q/[name(:*)]", "nodes 1 /q/:a 1 1 0 {n='5}"),
-            (
-                "/q/[name(a*)]",
-                "nodes 2 /q/a 1 1 0 {n=5,t='x} /q/ab 1 1 0 -",
-            ),
-            ("/q/[name(*b)]", "nodes 2 /q/ab 1 1 0 - /q/b 2 1 0 {n=11}"),
-            ("/q/[name(a*b)]", "nodes 1 /q/ab 1 1 0 -"),
-            ("/q/[name(a**b)]", "nodes 1 /q/ab 1 1 0 -"),
-            (
-                "/q/[field(n,gt,5)]",
-                "nodes 2 /q/:a 1 1 0 {n='5} /q/b 2 1 0 {n=11}",
-            ),
-            ("/q/[field(n,le,5)]", "nodes 1 /q/a 1 1 0 {n=5,t='x}"),
-            (
-                "/q/[field(n,lt,'0)]",
-                "nodes 2 /q/a 1 1 0 {n=5,t='x} /q/b 2 1 0 {n=11}",
-            ),
-            (
-                "/q/[field(n,ne,5)]",
-                "nodes 2 /q/:a 1 1 0 {n='5} /q/b 2 1 0 {n=11}",
-            ),
-            (
-                "/q/[not(field(n,eq,5))]",
-                "nodes 3 /q/:a 1 1 0 {n='5} /q/ab 1 1 0 - /q/b 2 1 0 {n=11}",
-            ),
-            ("/q/[field(t,eq,'x)]", "nodes 1 /q/a 1 1 0 {n=5,t='x}"),
-            ("/q/[is({n=11})]", "nodes 1 /q/b 2 1 0 {n=11}"),
-            ("/q/[is({})]", "nodes 0"),
-            (
-                "/q/[payload]",
-                "nodes 3 /q/:a 1 1 0 {n='5} /q/a 1 1 0 {n=5,t='x} /q/b 2 1 0 {n=11}",
-            ),
-            ("/q/[pv(eq,2)]", "nodes 1 /q/b 2 1 0 {n=11}"),
-            (
-                "/[cv(ge,4)]/*",
-                "nodes 4 /q/:a 1 1 0 {n='5} /q/a 1 1 0 {n=5,t='x} /q/ab 1 1 0 - /q/b 2 1 0 {n=11}",
-            ),
-            ("/[cv(gt,4)]/*", "nodes 0"),
-            ("/[kids(eq,4)]", "nodes 1 /q 1 4 4 -"),
-            (
-                "/[all(kids(ge,4),not(payload))]/[any(pv(gt,1),name(:a))]",
-                "nodes 2 /q/:a 1 1 0 {n='5} /q/b 2 1 0 {n=11}",
-            ),
-            ("/**/[sproc]", "nodes 0"),
-            ("/q/[all(exists,not(data))]", "nodes 1 /q/ab 1 1 0 -"),
-        ],
-    ),
-    (
-        "@1 put /x/y/x/y/z -\n\
-         @1 put /x/abab {}\n\
-         @1 put /x/aXbYb -\n\
-         @1 put /x/%2A {}\n",
-        &[
-            ("/**/y", "nodes 2 /x/y 1 1 1 - /x/y/x/y 1 1 1 -"),
-            ("/**/x/**", "nodes 2 /x/y/x/y 1 1 1 - /x/y/x/y/z 1 1 0 -"),
-            ("/x/**/z", "nodes 1 /x/y/x/y/z 1 1 0 -"),
-            ("/x/*/z", "nodes 0"),
-            ("/*/y/*/y", "nodes 1 /x/y/x/y 1 1 1 -"),
-            (
-                "/x/[name(a*b)]",
-                "nodes 2 /x/aXbYb 1 1 0 - /x/abab 1 1 0 {}",
-            ),
-            ("/x/[name(*ab)]", "nodes 1 /x/abab 1 1 0 {}"),
-            (
-                "/x/[name(a*b*b)]",
-                "nodes 2 /x/aXbYb 1 1 0 - /x/abab 1 1 0 {}",
-            ),
-            ("/x/[name(a*bYb)]", "nodes 1 /x/aXbYb 1 1 0 -"),
-            ("/x/[name(ab*ab*)]", "nodes 1 /x/abab 1 1 0 {}"),
-            ("/x/[name(ab*ab*ab)]", "nodes 0"),
-            ("/x/%2A", "nodes 1 /x/%2A 1 1 0 {}"),
-            ("/x/[name(%2A)]", "nodes 1 /x/%2A 1 1 0 {}"),
-            (
-                "/x/[name(*)]",
-                "nodes 4 /x/%2A 1 1 0 {} /x/aXbYb 1 1 0 - /x/abab 1 1 0 {} /x/y 1 1 1 -",
-            ),
-            (
-                "/**/[kids(eq,1)]/**",
-                "nodes 3 /x/y/x 1 1 1 - /x/y/x/y 1 1 1 - /x/y/x/y/z 1 1 0 -",
-            ),
-            ("/[kids(eq,1)]", "nodes 0"),
-            (
-                "/x/[not(not(data))]",
-                "nodes 2 /x/%2A 1 1 0 {} /x/abab 1 1 0 {}",
-            ),
-            ("/x/y/**/y/**", "nodes 1 /x/y/x/y/z 1 1 0 -"),
-        ],
-    ),
-];
-
-// What is no pattern.
-const NO_PATTERNS: [&str; 13] = [
-    "/a/",
-    "/***",
-    "/a*",
-    "/[]",
-    "/[absent",
-    "a",
-    "//a",
-    "/[not()]",
-    "/[pv(eq,01)]",
-    "/[name()]",
-    "/[name(:)]",
-    "/[name(?)]",
-    "/a/a/a/a/a/a/a/a/a/a/a/a/a/a/a/a/a/a/a/a/a/a/a/a/a/a/a/a/a/a/a/a/a",
-];
-
-// What is written for these lines, the first line of all aside.
-fn session_of(alloc: Global, input: Vec<u8>) -> Result<Vec<u8>, AllocError> {
-    let words = words(alloc, &["session"])?;
-    let mut source = MemSource::new(input, Vec::new(alloc));
-    let mut sink = sink(alloc, Vec::new(alloc));
+fn run_of(alloc: Global, words: &[&str], input: &[u8], way: Way) -> Result<Ran, AllocError> {
+    let words = words_of(alloc, words)?;
+    let mut source = source(alloc, input, way)?;
+    let mut sink = sink(alloc, way)?;
     let status = run(alloc, words.as_slice(), &mut source, &mut sink);
-    let written = sink.bytes();
-    if status != Status::Ended || written.len() < 12 {
-        return Ok(Vec::new(alloc));
-    }
-    Vec::from_slice(alloc, &written[12..])
+    Ok(Ran { status, sink })
 }
 
-#[test]
-fn patterns_match(rt: HostRuntime) -> Result<(), Fail> {
-    let alloc = rt.alloc();
-    for (puts, rows) in PATTERNS {
-        let mut input = Vec::from_slice(alloc, puts.as_bytes())?;
-        let mut output = Vec::new(alloc);
-        let mut line = count_ends(input.as_slice());
-        for (pattern, reply) in rows {
-            line = line.saturating_add(1);
-            let asked = format!(in alloc; "@1 many {pattern} 256\n")?;
-            let answered = format!(in alloc;
-                "# {line} @{line} many {pattern} 256\n= {line} {line} {reply}\n"
-            )?;
-            input.extend_from_slice(asked.as_bytes())?;
-            output.extend_from_slice(answered.as_bytes())?;
+fn session(alloc: Global, input: &[u8], way: Way) -> Result<Ran, AllocError> {
+    run_of(alloc, &["session"], input, way)
+}
+
+// The first line that is not as expected, counted from 1.
+fn first_other_line(written: &[u8], expected: &[u8]) -> Option<usize> {
+    if written == expected {
+        return None;
+    }
+    let mut line: usize = 1;
+    for (byte, wanted) in written.iter().zip(expected) {
+        if byte != wanted {
+            break;
         }
-        let written = session_of(alloc, input)?;
-        assert!(rt; written.as_slice().ends_with(output.as_slice()), "{puts}");
+        if *byte == b'\n' {
+            line = line.saturating_add(1);
+        }
     }
-    for pattern in NO_PATTERNS {
-        let asked = format!(in alloc; "@1 count {pattern}\n")?;
-        let written = session_of(alloc, Vec::from_slice(alloc, asked.as_bytes())?)?;
-        assert_eq!(rt;
-            written.as_slice(),
-            b"- 1 badline\n".as_slice(),
-            "{pattern}"
-        );
+    Some(line)
+}
+
+const OPENING: &[u8] = b"! 1 leads 1\n";
+
+// The first line of a session that is not as expected behind its opening; 0 is the opening, or the status.
+fn first_wrong_line(ran: &Ran, output: &[u8]) -> Option<usize> {
+    match ran.sink.sink.bytes().strip_prefix(OPENING) {
+        Some(written) if ran.status == Status::Ended => first_other_line(written, output),
+        _ => Some(0),
     }
-    Ok(())
+}
+
+// The first session of a table that goes wrong, and the line of its output.
+fn first_wrong(
+    alloc: Global,
+    table: &[(&str, &str)],
+    way: Way,
+) -> Result<Option<(usize, usize)>, AllocError> {
+    for (i, (input, output)) in table.iter().enumerate() {
+        let ran = session(alloc, input.as_bytes(), way)?;
+        if let Some(line) = first_wrong_line(&ran, output.as_bytes()) {
+            return Ok(Some((i, line)));
+        }
+    }
+    Ok(None)
 }
 
 #[test]
 fn lines_are_answered(rt: HostRuntime) -> Result<(), Fail> {
     let alloc = rt.alloc();
-    let words = words(alloc, &["session"])?;
-    for (input, output) in SESSIONS.iter().chain(EXAMPLES.iter()) {
-        let mut source = source(alloc, input, Vec::new(alloc))?;
-        let mut sink = sink(alloc, Vec::new(alloc));
-        let status = run(alloc, words.as_slice(), &mut source, &mut sink);
-        let written = format!(in alloc; "! 1 leads 1\n{output}")?;
-        assert_eq!(rt; status, Status::Ended, "{input}");
-        assert_eq!(rt; sink.bytes(), written.as_bytes(), "{input}");
-        let mut slow = SlowSource {
-            source: self::source(alloc, input, Vec::new(alloc))?,
-        };
-        let mut sink = self::sink(alloc, Vec::new(alloc));
-        let status = run(alloc, words.as_slice(), &mut slow, &mut sink);
-        assert_eq!(rt; status, Status::Ended, "{input}");
-        assert_eq!(rt; sink.bytes(), written.as_bytes(), "{input}");
-    }
+    assert_eq!(rt; first_wrong(alloc, &SESSIONS, FAST)?, None);
+    assert_eq!(rt; first_wrong(alloc, &SESSIONS, SLOW)?, None);
     Ok(())
 }
 
-#[test]
-fn a_full_tree_takes_no_more(rt: HostRuntime) -> Result<(), Fail> {
-    let alloc = rt.alloc();
-    let words = words(alloc, &["session"])?;
-    let mut record = String::from_str(alloc, "{k='")?;
-    for _ in 0..4_091 {
-        record.push('a')?;
+const LINES: &[u8] =
+    b"@1 put /a/b {x=1}\n@1 put /a/b {x=1}\n@1 put /a/b {x=2}\n@1 get /a\n@1 put / {x=1}\n";
+
+const ANSWERS: &[u8] = b"! 1 leads 1\n\
+    # 1 @1 put /a/b {x=1}\n= 1 1 ok 1 0\n\
+    # 2 @2 put /a/b {x=1}\n= 2 2 ok 1 0\n\
+    # 3 @3 put /a/b {x=2}\n= 3 3 ok 2 0\n\
+    # 4 @4 get /a\n= 4 4 node 1 1 1 -\n\
+    # 5 @5 put / {x=1}\n= 5 5 ok 2 0\n";
+
+// Whether the opening and the answers to so many of the lines were written.
+fn are_answered(lines: usize, written: &[u8]) -> bool {
+    let mut ends: usize = 0;
+    for byte in written {
+        if *byte == b'\n' {
+            ends = ends.saturating_add(1);
+        }
     }
-    record.push('}')?;
-    let mut input = Vec::new(alloc);
-    let mut output = Vec::new(alloc);
-    output.extend_from_slice(b"! 1 leads 1\n")?;
-    for (i, name) in (1_000..=5_092).enumerate() {
-        let line = i + 1;
-        let reply = if name < 5_092 { "ok 1 0" } else { "no full" };
-        let put = format!(in alloc; "@1 put /{name} {record}\n")?;
-        let answer = format!(in alloc;
-            "# {line} @{line} put /{name} {record}\n= {line} {line} {reply}\n"
-        )?;
-        input.extend_from_slice(put.as_bytes())?;
-        output.extend_from_slice(answer.as_bytes())?;
+    ANSWERS.starts_with(written)
+        && written.ends_with(b"\n")
+        && ends == lines.saturating_mul(2).saturating_add(1)
+}
+
+fn count_ends(bytes: &[u8]) -> usize {
+    let mut ends: usize = 0;
+    for byte in bytes {
+        if *byte == b'\n' {
+            ends = ends.saturating_add(1);
+        }
     }
-    let mut source = MemSource::new(input, Vec::new(alloc));
-    let mut sink = sink(alloc, Vec::new(alloc));
-    let status = run(alloc, words.as_slice(), &mut source, &mut sink);
-    assert_eq!(rt; status, Status::Ended);
-    assert!(rt; sink.bytes() == output.as_slice());
-    Ok(())
+    ends
+}
+
+// Whether the lines are answered that had ended before the source failed.
+fn is_told_of_a_take(alloc: Global, failing_take: usize) -> Result<bool, AllocError> {
+    let way = Way {
+        is_slow: true,
+        failing_take: failing_take as u64,
+        failing_put: 0,
+    };
+    let ran = session(alloc, LINES, way)?;
+    if failing_take == 0 || failing_take > LINES.len() + 1 {
+        return Ok(ran.is(Status::Ended, ANSWERS));
+    }
+    let lines = count_ends(&LINES[..failing_take - 1]);
+    Ok(ran.status == Status::SourceFault && are_answered(lines, ran.sink.sink.bytes()))
+}
+
+fn first_wrong_take(alloc: Global) -> Result<Option<usize>, AllocError> {
+    for call in 0..=LINES.len() + 2 {
+        if !is_told_of_a_take(alloc, call)? {
+            return Ok(Some(call));
+        }
+    }
+    Ok(None)
 }
 
 #[test]
 fn sources_fail_at_each_call(rt: HostRuntime) -> Result<(), Fail> {
-    let alloc = rt.alloc();
-    let words = words(alloc, &["session"])?;
-    for k in 0..=LINES.len() + 2 {
-        let mut source = SlowSource {
-            source: source(alloc, LINES, one(alloc, k as u64)?)?,
-        };
-        let mut sink = sink(alloc, Vec::new(alloc));
-        let status = run(alloc, words.as_slice(), &mut source, &mut sink);
-        if k == 0 || k > LINES.len() + 1 {
-            assert_eq!(rt; status, Status::Ended, "take {k}");
-            assert_eq!(rt; sink.bytes(), answers(alloc, 5)?.as_slice(), "take {k}");
-        } else {
-            let ends = count_ends(&LINES.as_bytes()[..k - 1]);
-            assert_eq!(rt; status, Status::SourceFault, "take {k}");
-            assert_eq!(rt; sink.bytes(), answers(alloc, ends)?.as_slice(), "take {k}");
+    assert_eq!(rt; first_wrong_take(rt.alloc())?, None);
+    Ok(())
+}
+
+// Whether just the bytes were written that stood before the one that failed.
+fn is_told_of_a_byte(alloc: Global, failing_put: usize) -> Result<bool, AllocError> {
+    let way = Way {
+        is_slow: true,
+        failing_take: 0,
+        failing_put: failing_put as u64,
+    };
+    let ran = session(alloc, LINES, way)?;
+    if failing_put == 0 || failing_put > ANSWERS.len() {
+        return Ok(ran.is(Status::Ended, ANSWERS));
+    }
+    Ok(ran.is(Status::SinkFault, &ANSWERS[..failing_put - 1]))
+}
+
+fn first_wrong_byte(alloc: Global) -> Result<Option<usize>, AllocError> {
+    for call in 0..=ANSWERS.len() + 1 {
+        if !is_told_of_a_byte(alloc, call)? {
+            return Ok(Some(call));
         }
     }
-    Ok(())
+    Ok(None)
+}
+
+// Whether just the answers were written that stood before the one that failed.
+fn is_told_of_a_put(alloc: Global, failing_put: u64) -> Result<bool, AllocError> {
+    let way = Way {
+        is_slow: false,
+        failing_take: 0,
+        failing_put,
+    };
+    let ran = session(alloc, LINES, way)?;
+    if failing_put < 2 {
+        return Ok(ran.is(Status::SinkFault, b""));
+    }
+    let lines = failing_put as usize - 2;
+    Ok(ran.status == Status::SinkFault && are_answered(lines, ran.sink.sink.bytes()))
+}
+
+fn first_wrong_put(alloc: Global) -> Result<Option<u64>, AllocError> {
+    for call in 1..=6 {
+        if !is_told_of_a_put(alloc, call)? {
+            return Ok(Some(call));
+        }
+    }
+    Ok(None)
 }
 
 #[test]
 fn sinks_fail_at_each_call(rt: HostRuntime) -> Result<(), Fail> {
     let alloc = rt.alloc();
-    let words = words(alloc, &["session"])?;
-    let all = answers(alloc, 5)?;
-    for k in 0..=all.len() + 1 {
-        let mut source = source(alloc, LINES, Vec::new(alloc))?;
-        let mut sink = SlowSink {
-            sink: sink(alloc, one(alloc, k as u64)?),
-        };
-        let status = run(alloc, words.as_slice(), &mut source, &mut sink);
-        if k == 0 || k > all.len() {
-            assert_eq!(rt; status, Status::Ended, "put {k}");
-            assert_eq!(rt; sink.sink.bytes(), all.as_slice(), "put {k}");
-        } else {
-            assert_eq!(rt; status, Status::SinkFault, "put {k}");
-            assert_eq!(rt; sink.sink.bytes(), &all.as_slice()[..k - 1], "put {k}");
-        }
-    }
-    for k in 1..=6 {
-        let mut source = source(alloc, LINES, Vec::new(alloc))?;
-        let mut sink = sink(alloc, one(alloc, k as u64)?);
-        let status = run(alloc, words.as_slice(), &mut source, &mut sink);
-        assert_eq!(rt; status, Status::SinkFault, "put {k}");
-        let mut begun = Vec::new(alloc);
-        if k > 1 {
-            begun = answers(alloc, k - 2)?;
-        }
-        assert_eq!(rt; sink.bytes(), begun.as_slice(), "put {k}");
-    }
+    assert_eq!(rt; first_wrong_byte(alloc)?, None);
+    assert_eq!(rt; first_wrong_put(alloc)?, None);
     Ok(())
+}
+
+const USAGE: &[u8] =
+    b"khepri: session [--nodes N] | audit | gen --lines C --seed X | serve --port P --nodes N --workers W --connections C\n";
+
+const OTHER_WORDS: [&[&str]; 6] = [
+    &[],
+    &["sessio"],
+    &["sessions"],
+    &["Session"],
+    &["session", "session"],
+    &["session", ""],
+];
+
+fn get_the_usage_line(alloc: Global, words: &[&str]) -> Result<bool, AllocError> {
+    let way = Way {
+        is_slow: true,
+        failing_take: 0,
+        failing_put: 9,
+    };
+    let whole = run_of(alloc, words, LINES, FAST)?;
+    let failed = run_of(alloc, words, LINES, way)?;
+    Ok(whole.is(Status::Usage, USAGE) && failed.is(Status::SinkFault, b"khepri: "))
+}
+
+// The first of the other words that get another answer.
+fn first_known_words(alloc: Global) -> Result<Option<usize>, AllocError> {
+    for (i, words) in OTHER_WORDS.iter().enumerate() {
+        if !get_the_usage_line(alloc, words)? {
+            return Ok(Some(i));
+        }
+    }
+    Ok(None)
 }
 
 #[test]
 fn other_words_get_the_usage_line(rt: HostRuntime) -> Result<(), Fail> {
-    let alloc = rt.alloc();
-    let lines: [&[&str]; 6] = [
-        &[],
-        &["sessio"],
-        &["sessions"],
-        &["Session"],
-        &["session", "session"],
-        &["session", ""],
-    ];
-    for line in lines {
-        let words = words(alloc, line)?;
-        let mut source = source(alloc, LINES, Vec::new(alloc))?;
-        let mut sink = sink(alloc, Vec::new(alloc));
-        let status = run(alloc, words.as_slice(), &mut source, &mut sink);
-        assert_eq!(rt; status, Status::Usage);
-        assert_eq!(rt; sink.bytes(), USAGE.as_bytes());
-        let mut sink = SlowSink {
-            sink: self::sink(alloc, one(alloc, 9)?),
-        };
-        let status = run(alloc, words.as_slice(), &mut source, &mut sink);
-        assert_eq!(rt; status, Status::SinkFault);
-        assert_eq!(rt; sink.sink.bytes(), b"khepri: ".as_slice());
-    }
+    assert_eq!(rt; first_known_words(rt.alloc())?, None);
     Ok(())
+}
+
+// Lines of so many bytes, with their ends, and why each is refused.
+const LONG_LINES: [(usize, &str, &str); 7] = [
+    (16_384, "\n", "badline"),
+    (16_384, "\r\n", "badline"),
+    (16_384, "", "badline"),
+    (16_385, "\n", "toolong"),
+    (16_385, "\r\n", "toolong"),
+    (16_385, "", "toolong"),
+    (200_000, "\n", "toolong"),
+];
+
+fn is_refused(
+    alloc: Global,
+    length: usize,
+    ending: &str,
+    reason: &str,
+) -> Result<bool, AllocError> {
+    let mut input = vec![in alloc; b'x'; length]?;
+    input.extend_from_slice(ending.as_bytes())?;
+    let answer = format!(in alloc; "! 1 leads 1\n- 1 {reason}\n")?;
+    Ok(session(alloc, input.as_slice(), FAST)?.is(Status::Ended, answer.as_bytes()))
+}
+
+// The first of the long lines that gets another answer.
+fn first_wrong_length(alloc: Global) -> Result<Option<usize>, AllocError> {
+    for (i, (length, ending, reason)) in LONG_LINES.iter().enumerate() {
+        if !is_refused(alloc, *length, ending, reason)? {
+            return Ok(Some(i));
+        }
+    }
+    Ok(None)
 }
 
 #[test]
 fn long_lines_are_refused(rt: HostRuntime) -> Result<(), Fail> {
-    let alloc = rt.alloc();
-    let words = words(alloc, &["session"])?;
-    for (length, ending, reason) in [
-        (16_384, "\n", "! 1 leads 1\n- 1 badline\n"),
-        (16_384, "\r\n", "! 1 leads 1\n- 1 badline\n"),
-        (16_384, "", "! 1 leads 1\n- 1 badline\n"),
-        (16_385, "\n", "! 1 leads 1\n- 1 toolong\n"),
-        (16_385, "\r\n", "! 1 leads 1\n- 1 toolong\n"),
-        (16_385, "", "! 1 leads 1\n- 1 toolong\n"),
-        (200_000, "\n", "! 1 leads 1\n- 1 toolong\n"),
-    ] {
-        let mut bytes = vec![in alloc; b'x'; length]?;
-        bytes.extend_from_slice(ending.as_bytes())?;
-        let mut source = MemSource::new(bytes, Vec::new(alloc));
-        let mut sink = sink(alloc, Vec::new(alloc));
-        let status = run(alloc, words.as_slice(), &mut source, &mut sink);
-        assert_eq!(rt; status, Status::Ended, "{length}");
-        assert_eq!(rt; sink.bytes(), reason.as_bytes(), "{length}");
+    assert_eq!(rt; first_wrong_length(rt.alloc())?, None);
+    Ok(())
+}
+
+// A session that is made up line by line.
+#[derive(Drop)]
+struct Script {
+    input: Vec<u8>,
+    output: Vec<u8>,
+    lines: usize,
+}
+
+// Adds a command and its reply.
+fn ask(alloc: Global, script: &mut Script, cmd: &[u8], reply: &str) -> Result<(), AllocError> {
+    let n = script.lines.saturating_add(1);
+    let head = format!(in alloc; "# {n} @{n} ")?;
+    let tail = format!(in alloc; "\n= {n} {n} {reply}\n")?;
+    script.input.extend_from_slice(b"@1 ")?;
+    script.input.extend_from_slice(cmd)?;
+    script.input.push(b'\n')?;
+    script.output.extend_from_slice(head.as_bytes())?;
+    script.output.extend_from_slice(cmd)?;
+    script.output.extend_from_slice(tail.as_bytes())?;
+    script.lines = n;
+    Ok(())
+}
+
+// Appends the record of one field that has as many bytes, and what comes behind it.
+fn push_record(
+    alloc: Global,
+    text: &mut Vec<u8>,
+    bytes: usize,
+    rest: &str,
+) -> Result<(), AllocError> {
+    let letters = vec![in alloc; b'a'; bytes.saturating_sub(5)]?;
+    text.extend_from_slice(b"{k='")?;
+    text.extend_from_slice(letters.as_slice())?;
+    text.push(b'}')?;
+    text.extend_from_slice(rest.as_bytes())?;
+    Ok(())
+}
+
+// A put of a node of 12,270 bytes and of those of the record in its last watch.
+fn large_put(alloc: Global, name: usize, last: usize) -> Result<Vec<u8>, AllocError> {
+    let head = format!(in alloc; "put /{name} ")?;
+    let mut cmd = Vec::from_slice(alloc, head.as_bytes())?;
+    push_record(alloc, &mut cmd, 4_096, " while / not(is(")?;
+    push_record(alloc, &mut cmd, 4_070, ")) while / not(is(")?;
+    push_record(alloc, &mut cmd, 4_070, ")) while / not(is(")?;
+    push_record(alloc, &mut cmd, last, "))")?;
+    Ok(cmd)
+}
+
+fn ask_for_large(
+    alloc: Global,
+    script: &mut Script,
+    name: usize,
+    last: usize,
+    reply: &str,
+) -> Result<(), AllocError> {
+    let cmd = large_put(alloc, name, last)?;
+    ask(alloc, script, cmd.as_slice(), reply)
+}
+
+// Adds 1,026 nodes of 16,340 bytes, and one that leaves no byte beside the root's one.
+fn fill(alloc: Global, script: &mut Script) -> Result<(), AllocError> {
+    for name in 1_000..2_026 {
+        ask_for_large(alloc, script, name, 4_070, "ok 1 0")?;
     }
+    ask_for_large(alloc, script, 2_026, 106, "no full")?;
+    ask_for_large(alloc, script, 2_026, 105, "ok 1 0")?;
+    ask(alloc, script, b"put /a -", "no full")?;
+    ask(alloc, script, b"put / {}", "no full")
+}
+
+#[test]
+fn a_full_tree_takes_no_more(rt: HostRuntime) -> Result<(), Fail> {
+    let alloc = rt.alloc();
+    let mut script = Script {
+        input: Vec::new(alloc),
+        output: Vec::new(alloc),
+        lines: 0,
+    };
+    fill(alloc, &mut script)?;
+    let ran = session(alloc, script.input.as_slice(), FAST)?;
+    assert_eq!(rt; first_wrong_line(&ran, script.output.as_slice()), None);
     Ok(())
 }

@@ -1,7 +1,8 @@
 -- What a command comes to.
-use Rattle.std.specs.Prelude.{◌+◌}
+use Rattle.std.specs.Prelude.{◌≡◌, ◌+◌, ⊤}
 use Rattle.khepri_types.specs.declared.reply.Reply.{Reply}
 use Rattle.khepri_types.specs.Exec.{State, refused}
+use Rattle.khepri_types.specs.Tree.{Tree}
 use Rattle.khepri_machine.specs.declared.outcome.Outcome.{Outcome}
 use Rattle.khepri_machine.specs.declared.outcome.Outcome.TheVariants.{Same, Changed}
 
@@ -9,3 +10,8 @@ use Rattle.khepri_machine.specs.declared.outcome.Outcome.TheVariants.{Same, Chan
 abbrev pub ended : State → Outcome → Reply × State
 ended S (Same r) = refused S r
 ended S (Changed r c) = (r, record { tree = c.tree; position = S.position + 1 })
+
+-- a draft that takes this tree's place began from it
+abbrev pub IsOver : Tree → Outcome → Type 0
+IsOver T (Same r) = ⊤
+IsOver T (Changed r c) = T ≡ c.base

@@ -6,7 +6,7 @@ ghost use Rattle.khepri_types.specs.Exec.{State, pv_of, settled, wrote};
 ghost use Rattle.khepri_types.specs.Sizes.{fits};
 ghost use Rattle.khepri_types.specs.Tree.{stands};
 ghost use Rattle.khepri_types.specs.Watching.{unmet_of, watch};
-ghost use Rattle.khepri_machine.specs.Outcomes.{ended};
+ghost use Rattle.khepri_machine.specs.Outcomes.{ended, IsOver};
 
 use crate::outcome::Outcome;
 use keep_while::{first_unmet, settle};
@@ -25,7 +25,8 @@ pub(crate) fn give_watches(
     said: &Watching,
 ) -> Result<(), AllocError>
     requires stands { IsTrue (stands draft.old.tree path.now) }
-    ensures { OnOk result (draft.new.tree ≡ watch draft.old.tree path.now said.now) }
+    ensures base { draft.new.base ≡ draft.old.base }
+    ensures tree { OnOk result (draft.new.tree ≡ watch draft.old.tree path.now said.now) }
 {
     match said {
         Watching::Stay => Ok(()),
@@ -47,7 +48,8 @@ pub(crate) fn settled<L: Ledger>(
     number: u64,
     steps: &mut Steps<L>,
 ) -> Result<Outcome, AllocError>
-    ensures { IfOk result (λ o. (S : State) → settled S draft.entry.tree number ≡ ended S o) }
+    ensures value { IfOk result (λ o. (S : State) → settled S draft.entry.tree number ≡ ended S o) }
+    ensures over { IfOk result (λ o. IsOver draft.entry.base o) }
 {
     let mut draft = draft;
     let gone = settle(&mut draft, steps)?;
@@ -83,7 +85,8 @@ pub(crate) fn wrote<L: Ledger>(
     steps: &mut Steps<L>,
 ) -> Result<Outcome, AllocError>
     requires version { version ≡ pv_of (get draft.tree path.now) }
-    ensures { IfOk result (λ o. (S : State) → wrote S path.now draft.entry.tree ≡ ended S o) }
+    ensures value { IfOk result (λ o. (S : State) → wrote S path.now draft.entry.tree ≡ ended S o) }
+    ensures over { IfOk result (λ o. IsOver draft.entry.base o) }
 {
     if let Some(target) = unmet(&draft, path, steps)? {
         return Ok(Outcome::Same(Reply::NoWhile { target }));

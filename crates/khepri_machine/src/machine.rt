@@ -6,7 +6,7 @@ ghost use Rattle.khepri_types.specs.Exec.{exec, exec_command, opening_state, wri
 ghost use Rattle.khepri_types.specs.Conditions.{holds_at};
 ghost use Rattle.khepri_types.specs.Paths.{is_under};
 ghost use Rattle.khepri_types.specs.Tree.{stands};
-ghost use Rattle.khepri_machine.specs.Outcomes.{ended};
+ghost use Rattle.khepri_machine.specs.Outcomes.{ended, IsOver};
 
 use crate::finish::{give_watches, settled, wrote};
 use crate::outcome::Outcome;
@@ -97,6 +97,7 @@ impl KhepriMachine {
         steps: &mut Steps<L>,
     ) -> Result<Reply, AllocError>
         requires room { self.old.position < 2 ^ 40 }
+        requires over { IsOver self.old.tree outcome }
         ensures { IfOk result (λ reply. ended self.old outcome ≡ (reply, self.new)) }
     {
         match outcome {
@@ -114,7 +115,8 @@ impl KhepriMachine {
 
     // What a command comes to.
     fn outcome<L: Ledger>(&self, cmd: &Command, steps: &mut Steps<L>) -> Result<Outcome, AllocError>
-        ensures { IfOk result (λ o. exec_command self.now cmd.now ≡ ended self.now o) }
+        ensures value { IfOk result (λ o. exec_command self.now cmd.now ≡ ended self.now o) }
+        ensures over { IfOk result (λ o. IsOver self.now.tree o) }
     {
         match cmd {
             Command::Put {
@@ -154,7 +156,8 @@ impl KhepriMachine {
         watch: &Watching,
         steps: &mut Steps<L>,
     ) -> Result<Outcome, AllocError>
-        ensures { IfOk result (λ o. exec_command self.now (command.Put path.now payload.now watch.now) ≡ ended self.now o) }
+        ensures value { IfOk result (λ o. exec_command self.now (command.Put path.now payload.now watch.now) ≡ ended self.now o) }
+        ensures over { IfOk result (λ o. IsOver self.now.tree o) }
     {
         if let Some(reply) = unwritable(path, watch) {
             return Ok(Outcome::Same(reply));
@@ -169,7 +172,8 @@ impl KhepriMachine {
         watch: &Watching,
         steps: &mut Steps<L>,
     ) -> Result<Outcome, AllocError>
-        ensures { IfOk result (λ o. exec_command self.now (command.Create path.now payload.now watch.now) ≡ ended self.now o) }
+        ensures value { IfOk result (λ o. exec_command self.now (command.Create path.now payload.now watch.now) ≡ ended self.now o) }
+        ensures over { IfOk result (λ o. IsOver self.now.tree o) }
     {
         if let Some(reply) = unwritable(path, watch) {
             return Ok(Outcome::Same(reply));
@@ -187,7 +191,8 @@ impl KhepriMachine {
         watch: &Watching,
         steps: &mut Steps<L>,
     ) -> Result<Outcome, AllocError>
-        ensures { IfOk result (λ o. exec_command self.now (command.Update path.now payload.now watch.now) ≡ ended self.now o) }
+        ensures value { IfOk result (λ o. exec_command self.now (command.Update path.now payload.now watch.now) ≡ ended self.now o) }
+        ensures over { IfOk result (λ o. IsOver self.now.tree o) }
     {
         if let Some(reply) = unwritable(path, watch) {
             return Ok(Outcome::Same(reply));
@@ -206,7 +211,8 @@ impl KhepriMachine {
         watch: &Watching,
         steps: &mut Steps<L>,
     ) -> Result<Outcome, AllocError>
-        ensures { IfOk result (λ o. exec_command self.now (command.Cas path.now cond.now payload.now watch.now) ≡ ended self.now o) }
+        ensures value { IfOk result (λ o. exec_command self.now (command.Cas path.now cond.now payload.now watch.now) ≡ ended self.now o) }
+        ensures over { IfOk result (λ o. IsOver self.now.tree o) }
     {
         if let Some(reply) = unwritable(path, watch) {
             return Ok(Outcome::Same(reply));
@@ -218,7 +224,8 @@ impl KhepriMachine {
     }
 
     fn clear<L: Ledger>(&self, path: &Path, steps: &mut Steps<L>) -> Result<Outcome, AllocError>
-        ensures { IfOk result (λ o. exec_command self.now (command.Clear path.now) ≡ ended self.now o) }
+        ensures value { IfOk result (λ o. exec_command self.now (command.Clear path.now) ≡ ended self.now o) }
+        ensures over { IfOk result (λ o. IsOver self.now.tree o) }
     {
         if !self.stands(path, steps) {
             return Ok(Outcome::Same(Reply::NoAbsent));
@@ -227,7 +234,8 @@ impl KhepriMachine {
     }
 
     fn del<L: Ledger>(&self, path: &Path, steps: &mut Steps<L>) -> Result<Outcome, AllocError>
-        ensures { IfOk result (λ o. exec_command self.now (command.Del path.now) ≡ ended self.now o) }
+        ensures value { IfOk result (λ o. exec_command self.now (command.Del path.now) ≡ ended self.now o) }
+        ensures over { IfOk result (λ o. IsOver self.now.tree o) }
     {
         if path.len() == 0 {
             return Ok(Outcome::Same(Reply::NoRoot));
@@ -241,7 +249,8 @@ impl KhepriMachine {
         pattern: &Pattern,
         steps: &mut Steps<L>,
     ) -> Result<Outcome, AllocError>
-        ensures { IfOk result (λ o. exec_command self.now (command.Delmany pattern.now) ≡ ended self.now o) }
+        ensures value { IfOk result (λ o. exec_command self.now (command.Delmany pattern.now) ≡ ended self.now o) }
+        ensures over { IfOk result (λ o. IsOver self.now.tree o) }
     {
         if pattern.parts().len() == 0 {
             return Ok(Outcome::Same(Reply::NoRoot));
@@ -251,7 +260,8 @@ impl KhepriMachine {
     }
 
     fn get<L: Ledger>(&self, path: &Path, steps: &mut Steps<L>) -> Result<Outcome, AllocError>
-        ensures { IfOk result (λ o. exec_command self.now (command.Get path.now) ≡ ended self.now o) }
+        ensures value { IfOk result (λ o. exec_command self.now (command.Get path.now) ≡ ended self.now o) }
+        ensures over { IfOk result (λ o. IsOver self.now.tree o) }
     {
         Ok(Outcome::Same(shown(&self.tree, path, steps)?))
     }
@@ -262,7 +272,8 @@ impl KhepriMachine {
         limit: u64,
         steps: &mut Steps<L>,
     ) -> Result<Outcome, AllocError>
-        ensures { IfOk result (λ o. exec_command self.now (command.Many pattern.now limit) ≡ ended self.now o) }
+        ensures value { IfOk result (λ o. exec_command self.now (command.Many pattern.now limit) ≡ ended self.now o) }
+        ensures over { IfOk result (λ o. IsOver self.now.tree o) }
     {
         let found = find(self.alloc, &self.tree, pattern, limit, steps)?;
         Ok(Outcome::Same(Reply::Nodes {
@@ -276,7 +287,8 @@ impl KhepriMachine {
         pattern: &Pattern,
         steps: &mut Steps<L>,
     ) -> Result<Outcome, AllocError>
-        ensures { IfOk result (λ o. exec_command self.now (command.Count pattern.now) ≡ ended self.now o) }
+        ensures value { IfOk result (λ o. exec_command self.now (command.Count pattern.now) ≡ ended self.now o) }
+        ensures over { IfOk result (λ o. IsOver self.now.tree o) }
     {
         let found = find(self.alloc, &self.tree, pattern, 0, steps)?;
         Ok(Outcome::Same(Reply::Count { count: found.count }))
@@ -309,7 +321,8 @@ impl KhepriMachine {
         steps: &mut Steps<L>,
     ) -> Result<Outcome, AllocError>
         requires short { length path.now ≤ MAX_PATH_NAMES }
-        ensures { IfOk result (λ o. write self.now path.now payload.now watch.now ≡ ended self.now o) }
+        ensures value { IfOk result (λ o. write self.now path.now payload.now watch.now ≡ ended self.now o) }
+        ensures over { IfOk result (λ o. IsOver self.now.tree o) }
     {
         let mut draft = self.tree.draft()?;
         let version = draft.set(path, payload, steps)?;
@@ -324,7 +337,8 @@ impl KhepriMachine {
         steps: &mut Steps<L>,
     ) -> Result<Outcome, AllocError>
         requires below { is_under paths.now [] ≡ false }
-        ensures { IfOk result (λ o. dropped self.now paths.now ≡ ended self.now o) }
+        ensures value { IfOk result (λ o. dropped self.now paths.now ≡ ended self.now o) }
+        ensures over { IfOk result (λ o. IsOver self.now.tree o) }
     {
         let mut draft = self.tree.draft()?;
         let count = draft.drop_all(paths, steps)?;

@@ -9,7 +9,7 @@ ghost use Rattle.khepri_types.specs.declared.pattern.PatternPart.{PatternPart};
 ghost use Rattle.khepri_types.specs.Conditions.{seen_at};
 ghost use Rattle.khepri_types.specs.Exec.{shown_node};
 ghost use Rattle.khepri_types.specs.Patterns.{matching, matching_nodes};
-ghost use Rattle.khepri_types.specs.Views.{shown as seen};
+ghost use Rattle.khepri_types.specs.Views.{as_seen};
 ghost use Rattle.khepri_types.specs.Tree.{Tree as Nodes, IsTree, stands};
 ghost use Rattle.pattern_match.specs.Masks.{AreMasks};
 ghost use Rattle.tree_nodes.specs.Kept.{IsShallow};
@@ -48,7 +48,7 @@ fn next_path<'t, L: Ledger>(tree: &'t Tree, last: Option<&Path>, steps: &mut Ste
 // The node at a path that stands.
 fn standing<'t, L: Ledger>(tree: &'t Tree, path: &Path, steps: &mut Steps<L>) -> NodeView<'t>
     requires stands { IsTrue (stands tree.now path.now) }
-    ensures { Some (seen result) ≡ seen_at tree.now path.now }
+    ensures { Some (as_seen result) ≡ seen_at tree.now path.now }
 {
     let Some(node) = tree.node(path, steps) else {
         unreachable!()
@@ -100,7 +100,7 @@ fn visit<'t, L: Ledger>(
     requires more { 0 < length (ahead tree.now (option_copied last)) }
     requires behind { AreBehind pattern.now tree.now (option_copied last) masks.old }
     ensures next { ComesNext tree.now (option_copied last.entry) result.path.now }
-    ensures node { Some (seen result.node) ≡ seen_at tree.now result.path.now }
+    ensures node { Some (as_seen result.node) ≡ seen_at tree.now result.path.now }
     ensures masks { AreMasks pattern.now tree.now [] result.path.now masks.new }
 {
     let path = next_path(tree, last, steps);
@@ -116,7 +116,7 @@ fn visit<'t, L: Ledger>(
 
 // A node as a reply lists it.
 fn listed(visited: &Visited) -> Result<ShownNode, AllocError>
-    ensures { (T : Nodes) (n : Node) → get T visited.now.path.now ≡ Some n → Some (seen visited.now.node) ≡ seen_at T visited.now.path.now → IfOk result (λ s. s ≡ shown_node T (visited.now.path.now, n)) }
+    ensures { (T : Nodes) (n : Node) → get T visited.now.path.now ≡ Some n → Some (as_seen visited.now.node) ≡ seen_at T visited.now.path.now → IfOk result (λ s. s ≡ shown_node T (visited.now.path.now, n)) }
 {
     let node = visited.node;
     Ok(ShownNode {
@@ -132,7 +132,7 @@ impl Found {
     // One node more, of which only the first so many are listed.
     fn add(&mut self, visited: &Visited, limit: u64) -> Result<(), AllocError>
         requires room { self.old.count + 1 < 2 ^ 64 }
-        ensures { (T : Nodes) (es : List (List NameText × Node)) (n : Node) → get T visited.now.path.now ≡ Some n → Some (seen visited.now.node) ≡ seen_at T visited.now.path.now → Lists T limit es self.old → OnOk result (Lists T limit (es ++ (visited.now.path.now, n) ∷ []) self.new) }
+        ensures { (T : Nodes) (es : List (List NameText × Node)) (n : Node) → get T visited.now.path.now ≡ Some n → Some (as_seen visited.now.node) ≡ seen_at T visited.now.path.now → Lists T limit es self.old → OnOk result (Lists T limit (es ++ (visited.now.path.now, n) ∷ []) self.new) }
     {
         if self.count < limit {
             self.nodes.push(listed(visited)?)?;

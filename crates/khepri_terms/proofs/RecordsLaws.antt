@@ -12,7 +12,7 @@ use Rattle.khepri_terms.specs.Many.{◌>>=◌, onto}
 use Rattle.khepri_terms.specs.Bytes.{is_plain, bytes_text, byte_at, bytes_at}
 use Rattle.khepri_terms.specs.Names.{name_text, Stops, undotted, name_at}
 use Rattle.khepri_terms.specs.Numbers.{is_digit, number_at, int_at}
-use Rattle.khepri_terms.specs.Records.{scalar_text, IsScalar, field_text, IsField, fields_text, rec_text, keys_rise, IsRec, int_of, text_of, scalar_at, value_at, field_at, end_at, joined, fields_at, inner_at, opened_at, checked, rec_at}
+use Rattle.khepri_terms.specs.Records.{scalar_text, IsScalar, field_text, IsField, fields_text, rec_text, keys_rise, IsRec, int_of, text_of, scalar_at, value_at, field_at, end_at, onto_found, fields_at, inner_at, opened_at, checked, rec_at}
 use Rattle.khepri_terms.proofs.Cases.{bind_some, if_some, guard_some, some_is, and_true, or_false}
 use Rattle.khepri_terms.proofs.Reading.{ahead, many-end}
 use Rattle.khepri_terms.proofs.BytesLaws.{bytes_takes, bytes_again}
@@ -161,9 +161,9 @@ pub record Read (n : ℕ) (text : List ℕ) (x : List Field × List ℕ) : Type 
   pub few : length x.0 ≤ n
   pub some : 0 < length x.0
 
-joined_takes : (f : Field) (o : Option (List Field × List ℕ)) (x : List Field × List ℕ) → joined f o ≡ Some x → (y : List Field × List ℕ) × (o ≡ Some y) × (onto f y ≡ x)
-joined_takes f None x e = absurd cc
-joined_takes f (Some y) x e = (y, refl, some_is (onto f y) x e)
+found_takes : (f : Field) (o : Option (List Field × List ℕ)) (x : List Field × List ℕ) → onto_found f o ≡ Some x → (y : List Field × List ℕ) × (o ≡ Some y) × (onto f y ≡ x)
+found_takes f None x e = absurd cc
+found_takes f (Some y) x e = (y, refl, some_is (onto f y) x e)
 
 one_read : (n : ℕ) (text after rest : List ℕ) (f : Field) → text ≡ field_text f ++ after → after ≡ 125 ∷ rest → IsField f → Read (suc n) text (f ∷ [], rest)
 one_read n text after rest f e a is =
@@ -183,18 +183,18 @@ pub fields_take : (n : ℕ) (text : List ℕ) (x : List Field × List ℕ) → f
 unfolding fields_at
 fields_take zero text x e = absurd cc
 fields_take (suc n) text x e =
-    let a = bind_some (field_at text) (λ f. end_at f.1 >>= λ e. cond e.0 (Some (f.0 ∷ [], e.1)) (joined f.0 (fields_at n e.1))) x e in
+    let a = bind_some (field_at text) (λ f. end_at f.1 >>= λ e. cond e.0 (Some (f.0 ∷ [], e.1)) (onto_found f.0 (fields_at n e.1))) x e in
     let f = a.0.0 in
-    let b = bind_some (end_at a.0.1) (λ e. cond e.0 (Some (f ∷ [], e.1)) (joined f (fields_at n e.1))) x a.2 in
+    let b = bind_some (end_at a.0.1) (λ e. cond e.0 (Some (f ∷ [], e.1)) (onto_found f (fields_at n e.1))) x a.2 in
     let t = field_takes text a.0 a.1 in
     let s = end_takes a.0.1 b.0 b.1 in
     ⊎_elim
     (λ (p : (b.0.0 ≡ true) × (Some (f ∷ [], b.0.1) ≡ Some x)).
     subst (Read (suc n) text) (some_is (f ∷ [], b.0.1) x p.1) (one_read n text a.0.1 b.0.1 f t.0 (s ∙ ap (λ (l : Bool). sign l ∷ b.0.1) p.0) t.1))
-    (λ (p : (b.0.0 ≡ false) × (joined f (fields_at n b.0.1) ≡ Some x)).
-    let j = joined_takes f (fields_at n b.0.1) x p.1 in
+    (λ (p : (b.0.0 ≡ false) × (onto_found f (fields_at n b.0.1) ≡ Some x)).
+    let j = found_takes f (fields_at n b.0.1) x p.1 in
     subst (Read (suc n) text) j.2 (more_read n text a.0.1 b.0.1 f j.0 t.0 (s ∙ ap (λ (l : Bool). sign l ∷ b.0.1) p.0) t.1 (fields_take n b.0.1 j.0 j.1)))
-    (if_some b.0.0 (Some (f ∷ [], b.0.1)) (joined f (fields_at n b.0.1)) x b.2)
+    (if_some b.0.0 (Some (f ∷ [], b.0.1)) (onto_found f (fields_at n b.0.1)) x b.2)
 
 pub fields_again : (fs : List Field) (n : ℕ) (rest : List ℕ) → 0 < length fs → length fs ≤ n → AllByRecursion IsField fs → fields_at n (fields_text fs ++ 125 ∷ rest) ≡ Some (fs, rest)
 fields_again [] n rest lt le all = absurd (omega arith)
@@ -206,7 +206,7 @@ fields_again (f ∷ g ∷ fs) n rest lt le all =
     ap (λ (t : List ℕ). fields_at n (t ++ 125 ∷ rest)) (fields_text-more f (g ∷ fs) (omega arith))
     ∙ (ap (fields_at n) (append_assoc (field_text f) (44 ∷ fields_text (g ∷ fs)) (125 ∷ rest))
     ∙ (fields_step n (n - 1) f false (field_text f ++ 44 ∷ later) (44 ∷ later) later (omega arith) (field_again f (44 ∷ later) all.0 (sign_stops false later)) (end_again false later)
-    ∙ ap (joined f) (fields_again (g ∷ fs) (n - 1) rest (omega arith) (omega arith) all.1)))
+    ∙ ap (onto_found f) (fields_again (g ∷ fs) (n - 1) rest (omega arith) (omega arith) all.1)))
 
 -- what stands between `{` and `}`, and what is after it
 pub record Inner (text : List ℕ) (x : List Field × List ℕ) : Type 0 where

@@ -84,10 +84,10 @@ field_at text = do
   value ← value_at key.1
   Some (record { key = key.0; value = value.0 }, value.1)
 
--- a field before the others
-abbrev pub joined : Field → Option (List Field × List ℕ) → Option (List Field × List ℕ)
-joined f None = None
-joined f (Some x) = Some (onto f x)
+-- a field before the others, where these were found
+abbrev pub onto_found : Field → Option (List Field × List ℕ) → Option (List Field × List ℕ)
+onto_found f None = None
+onto_found f (Some x) = Some (onto f x)
 
 -- whether the record ends behind a field, by `}`, or goes on, by `,`; and what is after that
 unfoldable pub end_at : List ℕ → Option (Bool × List ℕ)
@@ -97,7 +97,7 @@ end_at (b ∷ text) = if b == 125 then Some (true, text) else (if b == 44 then S
 -- 1 to n fields joined by `,` and the `}` behind them, and what is after it
 unfoldable pub fields_at : ℕ → List ℕ → Option (List Field × List ℕ)
 fields_at zero text = None
-fields_at (suc n) text = field_at text >>= λ f. end_at f.1 >>= λ e. if e.0 then Some (f.0 ∷ [], e.1) else (joined f.0 (fields_at n e.1))
+fields_at (suc n) text = field_at text >>= λ f. end_at f.1 >>= λ e. if e.0 then Some (f.0 ∷ [], e.1) else (onto_found f.0 (fields_at n e.1))
 
 -- the fields behind a `{` to the `}`
 unfoldable pub inner_at : List ℕ → Option (List Field × List ℕ)

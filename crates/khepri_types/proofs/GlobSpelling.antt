@@ -11,6 +11,7 @@ use Rattle.khepri_terms.specs.Names.{mark}
 use Rattle.khepri_terms.proofs.Cases.{if_some, some_is}
 use Rattle.khepri_terms.proofs.Reading.{ahead, many-end, Took, many_takes, many_again}
 use Rattle.khepri_terms.proofs.BytesLaws.{byte_takes, byte_again}
+use Rattle.khepri_types.specs.declared.limits.TheConstants.{MAX_GLOB_PIECES}
 use Rattle.khepri_types.specs.declared.glob.Glob.{Glob}
 use Rattle.khepri_types.specs.declared.glob.GlobPiece.{GlobPiece}
 use Rattle.khepri_types.specs.declared.glob.GlobPiece.TheVariants.{Byte, Star}
@@ -59,7 +60,7 @@ piece_again : (p : GlobPiece) (rest : List ℕ) → IsPiece p → piece_at (piec
 piece_again (Byte b) rest is = byte_is_piece (byte_text b ++ rest) (b, rest) (byte_again b rest is)
 piece_again Star rest is = star_is_piece rest
 
-globbed_takes : (kind : Kind) (text : List ℕ) (found : List GlobPiece × List ℕ) (x : Glob × List ℕ) → Took piece_text IsPiece 255 text found → globbed kind found ≡ Some x → (mark kind ++ text ≡ glob_text x.0 ++ x.1) × IsGlob x.0
+globbed_takes : (kind : Kind) (text : List ℕ) (found : List GlobPiece × List ℕ) (x : Glob × List ℕ) → Took piece_text IsPiece MAX_GLOB_PIECES text found → globbed kind found ≡ Some x → (mark kind ++ text ≡ glob_text x.0 ++ x.1) × IsGlob x.0
 unfolding glob_text
 globbed_takes kind text ([], rest) x t e = absurd cc
 globbed_takes kind text (p ∷ pieces, rest) x t e =
@@ -72,12 +73,12 @@ unfolding glob_at
 glob_takes [] x e = absurd cc
 glob_takes (b ∷ text) x e =
     ⊎_elim
-    (λ (p : (eqb b 58 ≡ true) × (globbed Atom (many piece_at 255 text) ≡ Some x)).
-    let t = globbed_takes Atom text (many piece_at 255 text) x (many_takes piece_at piece_text IsPiece piece_takes 255 text) p.1 in
+    (λ (p : (eqb b 58 ≡ true) × (globbed Atom (many piece_at MAX_GLOB_PIECES text) ≡ Some x)).
+    let t = globbed_takes Atom text (many piece_at MAX_GLOB_PIECES text) x (many_takes piece_at piece_text IsPiece piece_takes MAX_GLOB_PIECES text) p.1 in
     (ap (λ (n : ℕ). n ∷ text) (eqb-true b 58 p.0) ∙ t.0, t.1))
-    (λ (p : (eqb b 58 ≡ false) × (globbed Text (many piece_at 255 (b ∷ text)) ≡ Some x)).
-    globbed_takes Text (b ∷ text) (many piece_at 255 (b ∷ text)) x (many_takes piece_at piece_text IsPiece piece_takes 255 (b ∷ text)) p.1)
-    (if_some (eqb b 58) (globbed Atom (many piece_at 255 text)) (globbed Text (many piece_at 255 (b ∷ text))) x e)
+    (λ (p : (eqb b 58 ≡ false) × (globbed Text (many piece_at MAX_GLOB_PIECES (b ∷ text)) ≡ Some x)).
+    globbed_takes Text (b ∷ text) (many piece_at MAX_GLOB_PIECES (b ∷ text)) x (many_takes piece_at piece_text IsPiece piece_takes MAX_GLOB_PIECES (b ∷ text)) p.1)
+    (if_some (eqb b 58) (globbed Atom (many piece_at MAX_GLOB_PIECES text)) (globbed Text (many piece_at MAX_GLOB_PIECES (b ∷ text))) x e)
 
 colon_is_none : (text : List ℕ) → piece_at (58 ∷ text) ≡ None
 unfolding piece_at byte_at is_plain
@@ -87,7 +88,7 @@ no_piece : piece_at [] ≡ None
 unfolding piece_at
 no_piece = refl
 
-text_is_glob : (text : List ℕ) (x : GlobPiece × List ℕ) → piece_at text ≡ Some x → glob_at text ≡ globbed Text (many piece_at 255 text)
+text_is_glob : (text : List ℕ) (x : GlobPiece × List ℕ) → piece_at text ≡ Some x → glob_at text ≡ globbed Text (many piece_at MAX_GLOB_PIECES text)
 unfolding glob_at
 text_is_glob [] x e = let n = no_piece in absurd cc
 text_is_glob (b ∷ text) x e =
@@ -97,15 +98,15 @@ text_is_glob (b ∷ text) x e =
     ] refl in
     cond-false _ _ _ no-colon
 
-colon_is_glob : (text : List ℕ) → glob_at (58 ∷ text) ≡ globbed Atom (many piece_at 255 text)
+colon_is_glob : (text : List ℕ) → glob_at (58 ∷ text) ≡ globbed Atom (many piece_at MAX_GLOB_PIECES text)
 unfolding glob_at
 colon_is_glob text = refl
 
-pieces_again : (g : Glob) (rest : List ℕ) → IsGlob g → piece_at rest ≡ None → many piece_at 255 (flat_map piece_text g.pieces ++ rest) ≡ (g.pieces, rest)
+pieces_again : (g : Glob) (rest : List ℕ) → IsGlob g → piece_at rest ≡ None → many piece_at MAX_GLOB_PIECES (flat_map piece_text g.pieces ++ rest) ≡ (g.pieces, rest)
 pieces_again g rest is none =
-    let high : length g.pieces ≤ 255 = is.high in
-    many_again piece_at piece_text IsPiece (λ _. Unit {0}) (λ p r q _. piece_again p r q) (λ _ _ _. tt) g.pieces 255 (255 - length g.pieces) rest is.pieces (omega arith) tt
-    ∙ (ap (λ (f : List GlobPiece × List ℕ). ahead g.pieces f) (many-end piece_at (255 - length g.pieces) rest none)
+    let high : length g.pieces ≤ MAX_GLOB_PIECES = is.high in
+    many_again piece_at piece_text IsPiece (λ _. Unit {0}) (λ p r q _. piece_again p r q) (λ _ _ _. tt) g.pieces MAX_GLOB_PIECES (MAX_GLOB_PIECES - length g.pieces) rest is.pieces (omega arith) tt
+    ∙ (ap (λ (f : List GlobPiece × List ℕ). ahead g.pieces f) (many-end piece_at (MAX_GLOB_PIECES - length g.pieces) rest none)
     ∙ ap (λ (v : List GlobPiece). (v, rest)) (append-nil g.pieces))
 
 by_kind : (kind : Kind) (pieces : List GlobPiece) (rest : List ℕ) → IsGlob (record { kind = kind; pieces = pieces }) → piece_at rest ≡ None → glob_at (glob_text (record { kind = kind; pieces = pieces }) ++ rest) ≡ Some (record { kind = kind; pieces = pieces }, rest)

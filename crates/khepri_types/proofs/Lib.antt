@@ -29,6 +29,7 @@ pub mod Rounds
 pub mod Remaining
 pub mod Upward
 pub mod Supporting
+pub mod Needing
 pub mod Watched
 pub mod Staying
 pub mod Everywhere

@@ -5,12 +5,14 @@ use Rattle.std.specs.FinMap.{get}
 use Rattle.khepri_terms.specs.Terms.{NameText}
 use Rattle.khepri_types.specs.declared.node.Node.{Node}
 use Rattle.khepri_types.specs.declared.command.Command.{Command}
+use Rattle.khepri_types.specs.declared.command.Entry.{Entry}
+use Rattle.khepri_types.specs.declared.command.Entry.TheVariants as entry
 use Rattle.khepri_types.specs.declared.out.EntryText.{EntryText}
 use Rattle.khepri_types.specs.declared.out.EntryText.TheVariants as text
 use Rattle.khepri_types.specs.declared.out.OutLine.{OutLine}
 use Rattle.khepri_types.specs.Tree.{IsTree, opening_tree}
 use Rattle.khepri_types.specs.Drop.{drop}
-use Rattle.khepri_types.specs.Exec.{State, opening_state, state_of, exec_command}
+use Rattle.khepri_types.specs.Exec.{State, opening_state, exec_command, exec, state_of}
 use Rattle.khepri_types.specs.History.{empty_opening, history, run_from, StaysStable}
 use Rattle.khepri_types.specs.Settling.{fails, stable}
 use Rattle.khepri_types.specs.Watching.{set_watched}
@@ -59,6 +61,9 @@ stable-after S c h = met (λ y. IsTrue (stable y.1.tree)) S c (record {
   sets = λ p x w may place fit. settle-ends (set_watched S.tree p x w);
   drops = λ paths apart fit. settle-ends (drop S.tree paths);
 })
+
+pub stable-entry : (S : State) (e : Entry) → IsTrue (stable S.tree) → IsTrue (stable (exec S e).1.tree)
+stable-entry S (entry.Command conn line c) h = stable-after S c h
 
 pub stable-step : (S : State) (e : EntryText) → IsTrue (stable S.tree) → IsTrue (stable (state_of S e).tree)
 stable-step S (text.Command c) h = stable-after S c h

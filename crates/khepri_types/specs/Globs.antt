@@ -7,6 +7,7 @@ use Rattle.khepri_terms.specs.Terms.{NameText}
 use Rattle.khepri_terms.specs.Many.{many}
 use Rattle.khepri_terms.specs.Bytes.{byte_text, byte_at}
 use Rattle.khepri_terms.specs.Names.{mark}
+use Rattle.khepri_types.specs.declared.limits.TheConstants.{MAX_GLOB_PIECES}
 use Rattle.khepri_types.specs.declared.glob.GlobPiece.{GlobPiece}
 use Rattle.khepri_types.specs.declared.glob.GlobPiece.TheVariants.{Byte, Star}
 use Rattle.khepri_types.specs.declared.glob.Glob.{Glob}
@@ -58,7 +59,7 @@ IsPiece Star = Unit {0}
 -- a glob that has a spelling
 pub record IsGlob (g : Glob) : Type 0 where
   pub low : 0 < length g.pieces
-  pub high : length g.pieces ≤ 255
+  pub high : length g.pieces ≤ MAX_GLOB_PIECES
   pub pieces : AllByRecursion IsPiece g.pieces
 
 abbrev pub byte_piece : Option (ℕ × List ℕ) → Option (GlobPiece × List ℕ)
@@ -78,4 +79,4 @@ globbed kind (p ∷ pieces, rest) = Some (record { kind = kind; pieces = p ∷ p
 -- the longest glob that is spelled at the front, and what is after it
 unfoldable pub glob_at : List ℕ → Option (Glob × List ℕ)
 glob_at [] = None
-glob_at (b ∷ text) = if b == 58 then globbed Atom (many piece_at 255 text) else globbed Text (many piece_at 255 (b ∷ text))
+glob_at (b ∷ text) = if b == 58 then globbed Atom (many piece_at MAX_GLOB_PIECES text) else globbed Text (many piece_at MAX_GLOB_PIECES (b ∷ text))

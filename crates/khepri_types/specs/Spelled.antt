@@ -81,8 +81,13 @@ IsReply (reply.Changed n k) = IsNumber n × IsNumber k
 IsReply (reply.Node pv cv kids x) = IsNumber pv × IsNumber cv × IsNumber kids × IsPayload x
 IsReply (reply.Nodes m nodes) = IsNumber m × AllByRecursion IsShownNode nodes
 IsReply (reply.Count m) = IsNumber m
+IsReply reply.NoRoot = Unit {0}
+IsReply reply.NoDeep = Unit {0}
+IsReply reply.NoExists = Unit {0}
+IsReply reply.NoAbsent = Unit {0}
+IsReply reply.NoMismatch = Unit {0}
 IsReply (reply.NoWhile p) = IsPath p
-IsReply r = Unit {0}
+IsReply reply.NoFull = Unit {0}
 
 -- what may stand in the `#` line of input line l: a command; where l is 0 also a fire or a noop
 abbrev pub IsEntryText : ℕ → EntryText → Type 0

@@ -27,6 +27,9 @@ pub const MAX_CONDITION_PARTS: usize = 64;
 /// How deep conditions may stand in one another; a condition with none in it has nesting 1.
 pub const MAX_CONDITION_NESTING: usize = 16;
 
+/// Pieces of a glob.
+pub const MAX_GLOB_PIECES: usize = 255;
+
 /// Parts of a pattern.
 pub const MAX_PATTERN_PARTS: usize = 32;
 

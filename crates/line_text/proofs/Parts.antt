@@ -1,14 +1,10 @@
 -- Turns of the loops over lists of conditions.
-use Rattle.std.proofs.Common.{◌≡◌, ℕ, zero, suc, ◌+◌, ◌-◌, ◌<◌, Bool, true, false, cond, List, [], ◌∷◌, ◌++◌, length, take, refl, sym, ap, ◌∙◌, append_assoc, map, arith, Option, Some, None, slice_index_or, codes}
-use Rattle.std.proofs.lemmas.List.{append-nil, length-append}
+use Rattle.std.proofs.Common.{◌≡◌, ℕ, zero, suc, ◌+◌, ◌-◌, ◌<◌, ◌≤◌, Bool, true, false, cond, List, [], ◌∷◌, ◌++◌, length, take, refl, sym, ap, ◌∙◌, append_assoc, map, arith, Option, Some, None, slice_index_or}
+use Rattle.std.proofs.lemmas.List.{append-nil, length-append, take_all}
 use Rattle.khepri_terms.specs.Many.{◌>>=◌}
 use Rattle.khepri_terms.proofs.Printing.{front_of}
-use Rattle.khepri_types.specs.declared.condition.Condition.{Condition, roll-Condition}
-use Rattle.khepri_types.specs.declared.condition.Condition.TheVariants as c
-use Rattle.khepri_types.specs.declared.condition.Condition.TheVariants.{rolls-All, rolls-Any}
-use Rattle.khepri_types.specs.declared.condition.Condition.TheFolds.{fold-roll-Condition}
-use Rattle.khepri_types.specs.declared.condition.Condition.TheOpen.{Condition-F}
-use Rattle.khepri_types.specs.ConditionTexts.{joined, asked_text, layer_text, condition_text}
+use Rattle.khepri_types.specs.declared.condition.Condition.{Condition}
+use Rattle.khepri_types.specs.ConditionTexts.{joined, condition_text}
 use Rattle.khepri_types.specs.ReadingConditions.{Reading, list_end_at, before, some_asked, layer_at, nested_at}
 use Rattle.line_text.specs.Joining.{comma}
 
@@ -151,25 +147,9 @@ comma_front xs i old before with_comma new b w f =
     let j : List ℕ = joined (map condition_text (take i xs)) in
     front_of old with_comma new (j ++ comma i) (w ∙ (ap (λ (t : List ℕ). t ++ comma i) b ∙ append_assoc old j (comma i))) f
 
--- a list between a word and a `)`
-listed : (word opened old first slice mid new : List ℕ) → opened ≡ word ++ 40 ∷ [] → first ≡ old ++ opened → mid ≡ first ++ slice → new ≡ mid ++ 41 ∷ [] → new ≡ old ++ asked_text word slice
-listed word opened old first slice mid new o f m n =
+-- the end of a list
+pub list_printed : (xs : List Condition) (i : ℕ) (old word before new : List ℕ) → length xs ≤ i → before ≡ (old ++ word) ++ joined (map condition_text (take i xs)) → new ≡ before ++ 41 ∷ [] → new ≡ old ++ (word ++ (joined (map condition_text xs) ++ 41 ∷ []))
+list_printed xs i old word before new l b n =
     n
-    ∙ (ap (λ (t : List ℕ). t ++ 41 ∷ []) (m ∙ ap (λ (t : List ℕ). t ++ slice) (f ∙ ap (λ (t : List ℕ). old ++ t) o))
-    ∙ (append_assoc (old ++ (word ++ 40 ∷ [])) slice (41 ∷ [])
-    ∙ (append_assoc old (word ++ 40 ∷ []) (slice ++ 41 ∷ [])
-    ∙ ap (λ (t : List ℕ). old ++ t) (append_assoc word (40 ∷ []) (slice ++ 41 ∷ [])))))
-
-pub all_printed : (xs items : List Condition) (v : Condition) (old first mid new : List ℕ) → v ≡ c.All xs → items ≡ xs → first ≡ old ++ codes "all(" → mid ≡ first ++ joined (map condition_text items) → new ≡ mid ++ 41 ∷ [] → new ≡ old ++ condition_text v
-unfolding layer_text
-all_printed xs items v old first mid new is same f m n =
-    let text : condition_text (roll-Condition (Condition-F.All xs)) ≡ asked_text (codes "all") (joined (map condition_text xs)) = fold-roll-Condition (List ℕ) layer_text (Condition-F.All xs) in
-    listed (codes "all") (codes "all(") old first (joined (map condition_text xs)) mid new refl f (m ∙ ap (λ (ys : List Condition). first ++ joined (map condition_text ys)) same) n
-    ∙ ap (λ (t : List ℕ). old ++ t) (sym text ∙ ap condition_text (rolls-All xs ∙ sym is))
-
-pub any_printed : (xs items : List Condition) (v : Condition) (old first mid new : List ℕ) → v ≡ c.Any xs → items ≡ xs → first ≡ old ++ codes "any(" → mid ≡ first ++ joined (map condition_text items) → new ≡ mid ++ 41 ∷ [] → new ≡ old ++ condition_text v
-unfolding layer_text
-any_printed xs items v old first mid new is same f m n =
-    let text : condition_text (roll-Condition (Condition-F.Any xs)) ≡ asked_text (codes "any") (joined (map condition_text xs)) = fold-roll-Condition (List ℕ) layer_text (Condition-F.Any xs) in
-    listed (codes "any") (codes "any(") old first (joined (map condition_text xs)) mid new refl f (m ∙ ap (λ (ys : List Condition). first ++ joined (map condition_text ys)) same) n
-    ∙ ap (λ (t : List ℕ). old ++ t) (sym text ∙ ap condition_text (rolls-Any xs ∙ sym is))
+    ∙ (ap (λ (t : List ℕ). t ++ 41 ∷ []) (b ∙ ap (λ (ys : List Condition). (old ++ word) ++ joined (map condition_text ys)) (take_all i xs l))
+    ∙ (append_assoc (old ++ word) (joined (map condition_text xs)) (41 ∷ []) ∙ append_assoc old word (joined (map condition_text xs) ++ 41 ∷ [])))

@@ -1,3 +1,5 @@
 pub mod Grammar
 pub mod Conditions
 pub mod Joining
+pub mod Layers
+pub mod Commands

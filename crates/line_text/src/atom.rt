@@ -1,18 +1,19 @@
 // What the atoms of conditions ask.
-ghost use Rattle.std.specs.Prelude.{◌≡◌, ◌++◌, ◌∷◌, length, take, IfOk, OnOk, OnErr, Err, Some, None};
-ghost use Rattle.std.specs.Fmt.{decimal};
+ghost use Rattle.std.specs.Prelude.{◌≡◌, ◌++◌, ◌∷◌, [], length, take, codes, IfOk, OnOk, OnErr, Err, Some, None};
 ghost use Rattle.khepri_terms.specs.Names.{comp_text};
-ghost use Rattle.khepri_terms.specs.Records.{scalar_text};
+ghost use Rattle.khepri_terms.specs.Records.{scalar_text, rec_text};
 ghost use Rattle.khepri_types.specs.Compares.{compare_text};
-ghost use Rattle.khepri_types.specs.ConditionTexts.{number_text};
+ghost use Rattle.khepri_types.specs.ConditionTexts.{asked_text, number_text};
+ghost use Rattle.khepri_types.specs.Globs.{glob_text};
+ghost use Rattle.line_text.specs.Layers.{pv_asked, cv_asked, kids_asked};
 ghost use Rattle.khepri_types.specs.ReadingConditions.{after_byte, compare_at, key_at, name_asked, is_asked, field_asked, number_asked};
 
-use crate::glob::read_glob;
-use crate::words::append_number;
+use crate::glob::{append_glob, read_glob};
+use crate::words::{append_number, append_word, strip};
 use khepri_terms::numbers::read_number;
 use khepri_terms::{Kind, Name, Rec, Scalar, TextFault};
 use khepri_types::limits::MAX_NUMBER;
-use khepri_types::{Compare, Condition};
+use khepri_types::{Compare, Condition, Glob};
 use std::alloc::{AllocError, Global};
 
 /// What is after this byte at the front.
@@ -53,57 +54,120 @@ fn read_compare(text: &[u8]) -> Result<(Compare, &[u8]), TextFault>
     ensures value { IfOk result (λ x. compare_at text.now ≡ Some (x.0, x.1.now)) }
     ensures bad { result ≡ Err TextFault.Bad → compare_at text.now ≡ None }
 {
-    if let Some(rest) = text.strip_prefix(b"eq") {
+    if let Some(rest) = strip(text, b"eq") {
         return Ok((Compare::Eq, rest));
     }
-    if let Some(rest) = text.strip_prefix(b"ne") {
+    if let Some(rest) = strip(text, b"ne") {
         return Ok((Compare::Ne, rest));
     }
-    if let Some(rest) = text.strip_prefix(b"lt") {
+    if let Some(rest) = strip(text, b"lt") {
         return Ok((Compare::Lt, rest));
     }
-    if let Some(rest) = text.strip_prefix(b"le") {
+    if let Some(rest) = strip(text, b"le") {
         return Ok((Compare::Le, rest));
     }
-    if let Some(rest) = text.strip_prefix(b"gt") {
+    if let Some(rest) = strip(text, b"gt") {
         return Ok((Compare::Gt, rest));
     }
-    if let Some(rest) = text.strip_prefix(b"ge") {
+    if let Some(rest) = strip(text, b"ge") {
         return Ok((Compare::Ge, rest));
     }
     Err(TextFault::Bad)
 }
 
-/// Appends `OP,NUM`.
+/// Appends `name(GLOB)`.
 #[tactic(auto, using(khepri_terms::proofs::Printing::front_then))]
-pub(crate) fn append_comparison(
-    op: Compare,
-    number: u64,
-    out: &mut Vec<u8>,
-) -> Result<(), AllocError>
-    ensures ok { OnOk result (out.new.items ≡ out.old.items ++ number_text op number) }
+pub(crate) fn append_name_asked(glob: &Glob, out: &mut Vec<u8>) -> Result<(), AllocError>
+    ensures ok { OnOk result (out.new.items ≡ out.old.items ++ asked_text (codes "name") (glob_text glob.now)) }
     ensures front { take (length out.old.items) out.new.items ≡ out.old.items }
 {
-    out.extend_from_slice(compare_word(op))?;
-    append_number(b",", number, out)
+    append_word(b"name(", out)?;
+    append_glob(glob, out)?;
+    append_word(b")", out)
 }
 
-/// Appends `KEY,OP,SCALAR`.
+/// Appends `is(REC)`.
 #[tactic(auto, using(khepri_terms::proofs::Printing::front_then))]
-pub(crate) fn append_field(
+pub(crate) fn append_is_asked(rec: &Rec, out: &mut Vec<u8>) -> Result<(), AllocError>
+    ensures ok { OnOk result (out.new.items ≡ out.old.items ++ asked_text (codes "is") (rec_text rec.now)) }
+    ensures front { take (length out.old.items) out.new.items ≡ out.old.items }
+{
+    append_word(b"is(", out)?;
+    rec.print(out)?;
+    append_word(b")", out)
+}
+
+/// Appends `field(KEY,OP,SCALAR)`.
+#[tactic(auto, using(khepri_terms::proofs::Printing::front_then))]
+pub(crate) fn append_field_asked(
     key: &Name,
     op: Compare,
     value: &Scalar,
     out: &mut Vec<u8>,
 ) -> Result<(), AllocError>
-    ensures ok { OnOk result (out.new.items ≡ out.old.items ++ (comp_text key.now ++ 44 ∷ (compare_text op ++ 44 ∷ scalar_text value.now))) }
+    ensures ok { OnOk result (out.new.items ≡ out.old.items ++ asked_text (codes "field") (comp_text key.now ++ 44 ∷ (compare_text op ++ 44 ∷ scalar_text value.now))) }
     ensures front { take (length out.old.items) out.new.items ≡ out.old.items }
 {
+    append_key(key, out)?;
+    append_value(op, value, out)
+}
+
+// Appends `field(KEY,`.
+#[tactic(auto, using(khepri_terms::proofs::Printing::front_then))]
+fn append_key(key: &Name, out: &mut Vec<u8>) -> Result<(), AllocError>
+    ensures ok { OnOk result (out.new.items ≡ out.old.items ++ (codes "field(" ++ (comp_text key.now ++ 44 ∷ []))) }
+    ensures front { take (length out.old.items) out.new.items ≡ out.old.items }
+{
+    append_word(b"field(", out)?;
     key.print(out)?;
-    out.push(b',')?;
-    out.extend_from_slice(compare_word(op))?;
-    out.push(b',')?;
-    value.print(out)
+    append_word(b",", out)
+}
+
+// Appends `OP,SCALAR)`.
+#[tactic(auto, using(khepri_terms::proofs::Printing::front_then))]
+fn append_value(op: Compare, value: &Scalar, out: &mut Vec<u8>) -> Result<(), AllocError>
+    ensures ok { OnOk result (out.new.items ≡ out.old.items ++ (compare_text op ++ (44 ∷ (scalar_text value.now ++ 41 ∷ [])))) }
+    ensures front { take (length out.old.items) out.new.items ≡ out.old.items }
+{
+    append_op(op, out)?;
+    value.print(out)?;
+    append_word(b")", out)
+}
+
+// Appends `OP,`.
+#[tactic(auto, using(khepri_terms::proofs::Printing::front_then))]
+fn append_op(op: Compare, out: &mut Vec<u8>) -> Result<(), AllocError>
+    ensures ok { OnOk result (out.new.items ≡ out.old.items ++ (compare_text op ++ 44 ∷ [])) }
+    ensures front { take (length out.old.items) out.new.items ≡ out.old.items }
+{
+    append_word(compare_word(op), out)?;
+    append_word(b",", out)
+}
+
+/// Appends a word that ends in `(`, and `OP,NUM)`.
+#[tactic(auto, using(khepri_terms::proofs::Printing::front_then))]
+pub(crate) fn append_number_asked(
+    word: &[u8],
+    op: Compare,
+    number: u64,
+    out: &mut Vec<u8>,
+) -> Result<(), AllocError>
+    ensures ok { OnOk result (out.new.items ≡ out.old.items ++ (word.now ++ (number_text op number ++ 41 ∷ []))) }
+    ensures front { take (length out.old.items) out.new.items ≡ out.old.items }
+{
+    append_word(word, out)?;
+    append_comparison(op, number, out)?;
+    append_word(b")", out)
+}
+
+// Appends `OP,NUM`.
+#[tactic(auto, using(khepri_terms::proofs::Printing::front_then))]
+fn append_comparison(op: Compare, number: u64, out: &mut Vec<u8>) -> Result<(), AllocError>
+    ensures ok { OnOk result (out.new.items ≡ out.old.items ++ number_text op number) }
+    ensures front { take (length out.old.items) out.new.items ≡ out.old.items }
+{
+    append_word(compare_word(op), out)?;
+    append_number(b",", number, out)
 }
 
 // The key at the front, and what is after it.
@@ -168,9 +232,9 @@ pub(crate) fn read_field_asked(
     Ok((Condition::Field { key, op, value }, left, rest))
 }
 
-/// The comparison and the number behind `pv(` and its like, and what is after the `)`.
+// The comparison and the number behind `pv(` and its like, and what is after the `)`.
 #[tactic(auto, unfolding(khepri_types::specs::ReadingConditions::number_asked))]
-pub(crate) fn read_number_asked(text: &[u8]) -> Result<(Compare, u64, &[u8]), TextFault>
+fn read_number_asked(text: &[u8]) -> Result<(Compare, u64, &[u8]), TextFault>
     ensures value { IfOk result (λ x. number_asked text.now ≡ Some (x.0, x.1, x.2.now)) }
     ensures bad { result ≡ Err TextFault.Bad → number_asked text.now ≡ None }
 {
@@ -181,4 +245,40 @@ pub(crate) fn read_number_asked(text: &[u8]) -> Result<(Compare, u64, &[u8]), Te
     };
     let rest = read_mark(rest, b')')?;
     Ok((op, number, rest))
+}
+
+/// Behind `pv(`.
+pub(crate) fn read_pv_asked(
+    left: usize,
+    text: &[u8],
+) -> Result<(Condition, usize, &[u8]), TextFault>
+    ensures value { IfOk result (λ x. pv_asked left text.now ≡ Some (x.0, x.1, x.2.now)) }
+    ensures bad { result ≡ Err TextFault.Bad → pv_asked left text.now ≡ None }
+{
+    let (op, number, rest) = read_number_asked(text)?;
+    Ok((Condition::Pv(op, number), left, rest))
+}
+
+/// Behind `cv(`.
+pub(crate) fn read_cv_asked(
+    left: usize,
+    text: &[u8],
+) -> Result<(Condition, usize, &[u8]), TextFault>
+    ensures value { IfOk result (λ x. cv_asked left text.now ≡ Some (x.0, x.1, x.2.now)) }
+    ensures bad { result ≡ Err TextFault.Bad → cv_asked left text.now ≡ None }
+{
+    let (op, number, rest) = read_number_asked(text)?;
+    Ok((Condition::Cv(op, number), left, rest))
+}
+
+/// Behind `kids(`.
+pub(crate) fn read_kids_asked(
+    left: usize,
+    text: &[u8],
+) -> Result<(Condition, usize, &[u8]), TextFault>
+    ensures value { IfOk result (λ x. kids_asked left text.now ≡ Some (x.0, x.1, x.2.now)) }
+    ensures bad { result ≡ Err TextFault.Bad → kids_asked left text.now ≡ None }
+{
+    let (op, number, rest) = read_number_asked(text)?;
+    Ok((Condition::Kids(op, number), left, rest))
 }

@@ -1,21 +1,24 @@
 // Commands.
-ghost use Rattle.std.specs.Prelude.{◌≡◌, ◌++◌, ◌∷◌, length, take, IfOk, OnOk, OnErr, Err, Some, None};
+ghost use Rattle.std.specs.Prelude.{◌≡◌, ◌++◌, ◌∷◌, length, take, codes, IfOk, OnOk, OnErr, Err, Some, None};
+ghost use Rattle.std.specs.Fmt.{decimal};
 ghost use Rattle.khepri_terms.specs.Paths.{path_text};
+ghost use Rattle.khepri_types.specs.ConditionTexts.{condition_text};
 ghost use Rattle.khepri_types.specs.PatternTexts.{pattern_text};
 ghost use Rattle.khepri_types.specs.Texts.{payload_text, watching_text, assigned_text, command_text};
+ghost use Rattle.line_text.specs.Commands.{second_command};
 ghost use Rattle.line_text.specs.Grammar.{SpellsCommand, IsNoCommand};
 ghost use Rattle.khepri_types.specs.Reading.{spelled_path, Assigned, spelled_assigned, spelled_cas, spelled_pattern, spelled_limit, spelled_many, spelled_command};
 
 use crate::atom::read_mark;
-use crate::condition::read_condition;
+use crate::condition::match_condition;
 use crate::pattern::{append_pattern, read_pattern};
 use crate::payload::{append_payload, read_payload};
 use crate::watch::{append_asked, append_watching, read_watching};
-use crate::words::append_number;
+use crate::words::{append_number, append_word};
 use khepri_terms::numbers::read_number;
 use khepri_terms::{Path, TextFault};
 use khepri_types::limits::MAX_SHOWN_NODES;
-use khepri_types::{Command, Pattern, Payload, Watching};
+use khepri_types::{Command, Condition, Pattern, Payload, Watching};
 use std::alloc::{AllocError, Global};
 
 /// Appends the spelling of a command; where memory is wanting, nothing.
@@ -31,7 +34,7 @@ pub fn print_command(cmd: &Command, out: &mut Vec<u8>) -> Result<(), AllocError>
     printed
 }
 
-#[tactic(auto, unfolding(khepri_types::specs::Texts::command_text), using(khepri_terms::proofs::Printing::front_then))]
+#[tactic(auto, unfolding(khepri_types::specs::Texts::command_text))]
 pub(crate) fn append_command(cmd: &Command, out: &mut Vec<u8>) -> Result<(), AllocError>
     ensures ok { OnOk result (out.new.items ≡ out.old.items ++ command_text cmd.now) }
     ensures front { take (length out.old.items) out.new.items ≡ out.old.items }
@@ -57,40 +60,60 @@ pub(crate) fn append_command(cmd: &Command, out: &mut Vec<u8>) -> Result<(), All
             cond,
             payload,
             watch,
-        } => {
-            out.extend_from_slice(b"cas ")?;
-            append_asked(path, cond, out)?;
-            append_set(payload, watch, out)
-        }
+        } => append_cas(path, cond, payload, watch, out),
         Command::Clear { path } => append_path(b"clear ", path, out),
         Command::Del { path } => append_path(b"del ", path, out),
         Command::Delmany { pattern } => append_scan(b"delmany ", pattern, out),
         Command::Get { path } => append_path(b"get ", path, out),
-        Command::Many { pattern, limit } => {
-            append_scan(b"many ", pattern, out)?;
-            append_number(b" ", *limit, out)
-        }
+        Command::Many { pattern, limit } => append_many(pattern, *limit, out),
         Command::Count { pattern } => append_scan(b"count ", pattern, out),
     }
 }
 
-// Appends a word and a path.
+// Appends `cas PATH COND`, a space, a payload, and what is said of watches.
 #[tactic(auto, using(khepri_terms::proofs::Printing::front_then))]
-fn append_path(word: &[u8], path: &Path, out: &mut Vec<u8>) -> Result<(), AllocError>
-    ensures ok { OnOk result (out.new.items ≡ out.old.items ++ word.now ++ path_text path.now) }
+fn append_cas(
+    path: &Path,
+    cond: &Condition,
+    payload: &Payload,
+    watch: &Watching,
+    out: &mut Vec<u8>,
+) -> Result<(), AllocError>
+    ensures ok { OnOk result (out.new.items ≡ out.old.items ++ (codes "cas " ++ path_text path.now ++ 32 ∷ condition_text cond.now ++ 32 ∷ payload_text payload.now ++ watching_text watch.now)) }
     ensures front { take (length out.old.items) out.new.items ≡ out.old.items }
 {
-    out.extend_from_slice(word)?;
+    append_word(b"cas ", out)?;
+    append_asked(path, cond, out)?;
+    append_set(payload, watch, out)
+}
+
+// Appends `many PATTERN C`.
+#[tactic(auto, using(khepri_terms::proofs::Printing::front_then))]
+fn append_many(pattern: &Pattern, limit: u64, out: &mut Vec<u8>) -> Result<(), AllocError>
+    ensures ok { OnOk result (out.new.items ≡ out.old.items ++ (codes "many " ++ pattern_text pattern.now ++ 32 ∷ decimal limit)) }
+    ensures front { take (length out.old.items) out.new.items ≡ out.old.items }
+{
+    append_scan(b"many ", pattern, out)?;
+    append_number(b" ", limit, out)
+}
+
+/// Appends a word and a path.
+#[tactic(auto, using(khepri_terms::proofs::Printing::front_then))]
+pub(crate) fn append_path(word: &[u8], path: &Path, out: &mut Vec<u8>) -> Result<(), AllocError>
+    ensures ok { OnOk result (out.new.items ≡ out.old.items ++ (word.now ++ path_text path.now)) }
+    ensures front { take (length out.old.items) out.new.items ≡ out.old.items }
+{
+    append_word(word, out)?;
     path.print(out)
 }
 
 // Appends a word and a pattern.
 #[tactic(auto, using(khepri_terms::proofs::Printing::front_then))]
 fn append_scan(word: &[u8], pattern: &Pattern, out: &mut Vec<u8>) -> Result<(), AllocError>
-    ensures ok { OnOk result (out.new.items ≡ out.old.items ++ word.now ++ pattern_text pattern.now) }
+    ensures ok { OnOk result (out.new.items ≡ out.old.items ++ (word.now ++ pattern_text pattern.now)) }
     ensures front { take (length out.old.items) out.new.items ≡ out.old.items }
 {
-    out.extend_from_slice(word)?;
+    append_word(word, out)?;
     append_pattern(pattern, out)
 }
 
@@ -100,7 +123,7 @@ fn append_set(payload: &Payload, watch: &Watching, out: &mut Vec<u8>) -> Result<
     ensures ok { OnOk result (out.new.items ≡ out.old.items ++ (32 ∷ (payload_text payload.now ++ watching_text watch.now))) }
     ensures front { take (length out.old.items) out.new.items ≡ out.old.items }
 {
-    out.push(b' ')?;
+    append_word(b" ", out)?;
     append_payload(payload, out)?;
     append_watching(watch, out)
 }
@@ -114,7 +137,7 @@ fn append_assigned(
     watch: &Watching,
     out: &mut Vec<u8>,
 ) -> Result<(), AllocError>
-    ensures ok { OnOk result (out.new.items ≡ out.old.items ++ word.now ++ assigned_text path.now payload.now watch.now) }
+    ensures ok { OnOk result (out.new.items ≡ out.old.items ++ (word.now ++ assigned_text path.now payload.now watch.now)) }
     ensures front { take (length out.old.items) out.new.items ≡ out.old.items }
 {
     append_path(word, path, out)?;
@@ -168,7 +191,7 @@ fn read_cas(alloc: Global, text: &[u8]) -> Result<Command, TextFault>
 {
     let (path, rest) = Path::read(alloc, text)?;
     let rest = read_mark(rest, b' ')?;
-    let (cond, rest) = read_condition(alloc, rest)?;
+    let (cond, rest) = match_condition(alloc, rest)?;
     let rest = read_mark(rest, b' ')?;
     let (payload, rest) = read_payload(alloc, rest)?;
     let watch = read_watching(alloc, rest)?;
@@ -223,8 +246,8 @@ pub fn read_command(alloc: Global, text: &[u8]) -> Result<Command, TextFault>
     match_command(alloc, text)
 }
 
-// Each word in turn.
-#[tactic(auto, unfolding(khepri_types::specs::Reading::spelled_command))]
+// The commands that write, each word in turn, and then the others.
+#[tactic(auto, unfolding(khepri_types::specs::Reading::spelled_command, crate::specs::Commands::second_command))]
 pub(crate) fn match_command(alloc: Global, text: &[u8]) -> Result<Command, TextFault>
     ensures value { IfOk result (λ cmd. spelled_command text.now ≡ Some cmd) }
     ensures bad { result ≡ Err TextFault.Bad → spelled_command text.now ≡ None }
@@ -260,6 +283,15 @@ pub(crate) fn match_command(alloc: Global, text: &[u8]) -> Result<Command, TextF
         let path = read_whole_path(alloc, rest)?;
         return Ok(Command::Clear { path });
     }
+    match_second(alloc, text)
+}
+
+// The commands that delete or ask, each word in turn.
+#[tactic(auto, unfolding(crate::specs::Commands::second_command))]
+fn match_second(alloc: Global, text: &[u8]) -> Result<Command, TextFault>
+    ensures value { IfOk result (λ cmd. second_command text.now ≡ Some cmd) }
+    ensures bad { result ≡ Err TextFault.Bad → second_command text.now ≡ None }
+{
     if let Some(rest) = text.strip_prefix(b"del ") {
         let path = read_whole_path(alloc, rest)?;
         return Ok(Command::Del { path });

@@ -1,15 +1,16 @@
 // Conditions.
-ghost use Rattle.std.specs.Prelude.{◌≡◌, ◌++◌, ◌+◌, ◌≤◌, length, take, drop, map, IfOk, OnOk, OnErr, Err, Some, None};
+ghost use Rattle.std.specs.Prelude.{◌≡◌, ◌++◌, ◌∷◌, [], ◌+◌, ◌≤◌, length, take, drop, map, codes, IfOk, OnOk, OnErr, Err, Some, None};
 ghost use Rattle.khepri_types.specs.ConditionTexts.{joined, asked_text, condition_text};
 ghost use Rattle.khepri_types.specs.ReadingConditions.{list_end_at, not_asked, some_asked, list_asked, layer_at, nested_at, condition_at};
 ghost use Rattle.line_text.specs.Joining.{comma};
+ghost use Rattle.line_text.specs.Layers.{all_asked, any_asked, outer_at, asking_at};
 ghost use Rattle.line_text.specs.Conditions.{OnlyCondition, BeginsNoCondition};
 
 use crate::atom::{
-    append_comparison, append_field, read_field_asked, read_is_asked, read_mark, read_name_asked,
-    read_number_asked,
+    append_field_asked, append_is_asked, append_name_asked, append_number_asked, read_cv_asked,
+    read_field_asked, read_is_asked, read_kids_asked, read_mark, read_name_asked, read_pv_asked,
 };
-use crate::glob::append_glob;
+use crate::words::{append_word, strip};
 use khepri_terms::TextFault;
 use khepri_types::Condition;
 use khepri_types::limits::{MAX_CONDITION_NESTING, MAX_CONDITION_PARTS};
@@ -36,72 +37,40 @@ pub(crate) fn append_condition(cond: &Condition, out: &mut Vec<u8>) -> Result<()
     ensures front { take (length out.old.items) out.new.items ≡ out.old.items }
 {
     match cond {
-        Condition::Absent => out.extend_from_slice(b"absent")?,
-        Condition::Exists => out.extend_from_slice(b"exists")?,
-        Condition::Payload => out.extend_from_slice(b"payload")?,
-        Condition::Data => out.extend_from_slice(b"data")?,
-        Condition::Sproc => out.extend_from_slice(b"sproc")?,
-        Condition::Name(glob) => {
-            out.extend_from_slice(b"name(")?;
-            append_glob(glob, out)?;
-            out.push(b')')?;
-        }
-        Condition::Is(rec) => {
-            out.extend_from_slice(b"is(")?;
-            rec.print(out)?;
-            out.push(b')')?;
-        }
-        Condition::Field { key, op, value } => {
-            out.extend_from_slice(b"field(")?;
-            append_field(key, *op, value, out)?;
-            out.push(b')')?;
-        }
-        Condition::Pv(op, number) => {
-            out.extend_from_slice(b"pv(")?;
-            append_comparison(*op, *number, out)?;
-            out.push(b')')?;
-        }
-        Condition::Cv(op, number) => {
-            out.extend_from_slice(b"cv(")?;
-            append_comparison(*op, *number, out)?;
-            out.push(b')')?;
-        }
-        Condition::Kids(op, number) => {
-            out.extend_from_slice(b"kids(")?;
-            append_comparison(*op, *number, out)?;
-            out.push(b')')?;
-        }
+        Condition::Absent => append_word(b"absent", out),
+        Condition::Exists => append_word(b"exists", out),
+        Condition::Payload => append_word(b"payload", out),
+        Condition::Data => append_word(b"data", out),
+        Condition::Sproc => append_word(b"sproc", out),
+        Condition::Name(glob) => append_name_asked(glob, out),
+        Condition::Is(rec) => append_is_asked(rec, out),
+        Condition::Field { key, op, value } => append_field_asked(key, *op, value, out),
+        Condition::Pv(op, number) => append_number_asked(b"pv(", *op, *number, out),
+        Condition::Cv(op, number) => append_number_asked(b"cv(", *op, *number, out),
+        Condition::Kids(op, number) => append_number_asked(b"kids(", *op, *number, out),
         Condition::Not(inner) => {
-            out.extend_from_slice(b"not(")?;
+            append_word(b"not(", out)?;
             append_condition(inner.get(), out)?;
-            out.push(b')')?;
+            append_word(b")", out)
         }
-        Condition::All(parts) => {
-            out.extend_from_slice(b"all(")?;
-            append_joined(parts.as_slice(), out)?;
-            out.push(b')')?;
-        }
-        Condition::Any(parts) => {
-            out.extend_from_slice(b"any(")?;
-            append_joined(parts.as_slice(), out)?;
-            out.push(b')')?;
-        }
+        Condition::All(parts) => append_list_asked(b"all(", parts.as_slice(), out),
+        Condition::Any(parts) => append_list_asked(b"any(", parts.as_slice(), out),
     }
-    Ok(())
 }
 
-// Appends the conditions joined by `,`.
+// Appends a word that ends in `(`, the conditions joined by `,`, and a `)`.
 #[cycle(printing)]
 #[tactic(auto, using(khepri_terms::proofs::Printing::front_then))]
-fn append_joined(parts: &[Condition], out: &mut Vec<u8>) -> Result<(), AllocError>
-    ensures ok { OnOk result (out.new.items ≡ out.old.items ++ joined (map condition_text parts.now)) }
+fn append_list_asked(word: &[u8], parts: &[Condition], out: &mut Vec<u8>) -> Result<(), AllocError>
+    ensures ok { OnOk result (out.new.items ≡ out.old.items ++ (word.now ++ (joined (map condition_text parts.now) ++ 41 ∷ []))) }
     ensures front { take (length out.old.items) out.new.items ≡ out.old.items }
 {
+    append_word(word, out)?;
     for (i, part) in parts.iter().enumerate() {
         append_comma(i, out)?;
         append_condition(part, out)?;
     }
-    Ok(())
+    append_word(b")", out)
 }
 
 // Appends a `,` behind the first part.
@@ -112,8 +81,7 @@ fn append_comma(i: usize, out: &mut Vec<u8>) -> Result<(), AllocError>
     if i == 0 {
         return Ok(());
     }
-    out.push(b',')?;
-    Ok(())
+    out.extend_from_slice(b",")
 }
 
 /// The condition that is spelled at the front, and what is after it.
@@ -145,8 +113,9 @@ pub fn read_condition_at(
     Ok((cond, text.len() - rest.len()))
 }
 
+// As `read_condition`, for readers that go on behind it.
 #[tactic(auto, unfolding(khepri_types::specs::ReadingConditions::condition_at))]
-fn match_condition(alloc: Global, text: &[u8]) -> Result<(Condition, &[u8]), TextFault>
+pub(crate) fn match_condition(alloc: Global, text: &[u8]) -> Result<(Condition, &[u8]), TextFault>
     ensures value { IfOk result (λ x. condition_at text.now ≡ Some (x.0, x.1.now)) }
     ensures bad { result ≡ Err TextFault.Bad → condition_at text.now ≡ None }
 {
@@ -174,9 +143,9 @@ fn read_nested(
     read_layer(alloc, nesting - 1, left - 1, text)
 }
 
-// The word of the condition at the front, and what it asks.
+// The condition at the front, if it is a word, or else what it asks.
 #[cycle(reading)]
-#[tactic(auto, unfolding(khepri_types::specs::ReadingConditions::layer_at))]
+#[tactic(auto, unfolding(khepri_types::specs::ReadingConditions::layer_at, crate::specs::Layers::asking_at))]
 fn read_layer(
     alloc: Global,
     nesting: usize,
@@ -186,52 +155,77 @@ fn read_layer(
     ensures value { IfOk result (λ x. layer_at (nested_at nesting) left text.now ≡ Some (x.0, x.1, x.2.now)) }
     ensures bad { result ≡ Err TextFault.Bad → layer_at (nested_at nesting) left text.now ≡ None }
 {
-    if let Some(rest) = text.strip_prefix(b"absent") {
+    if let Some(rest) = strip(text, b"absent") {
         return Ok((Condition::Absent, left, rest));
     }
-    if let Some(rest) = text.strip_prefix(b"exists") {
+    if let Some(rest) = strip(text, b"exists") {
         return Ok((Condition::Exists, left, rest));
     }
-    if let Some(rest) = text.strip_prefix(b"payload") {
+    if let Some(rest) = strip(text, b"payload") {
         return Ok((Condition::Payload, left, rest));
     }
-    if let Some(rest) = text.strip_prefix(b"data") {
+    if let Some(rest) = strip(text, b"data") {
         return Ok((Condition::Data, left, rest));
     }
-    if let Some(rest) = text.strip_prefix(b"sproc") {
+    if let Some(rest) = strip(text, b"sproc") {
         return Ok((Condition::Sproc, left, rest));
     }
-    if let Some(rest) = text.strip_prefix(b"name(") {
+    read_asking(alloc, nesting, left, text)
+}
+
+// The condition at the front, if it asks something of a node, or else one of conditions.
+#[cycle(reading)]
+#[tactic(auto, unfolding(crate::specs::Layers::asking_at))]
+fn read_asking(
+    alloc: Global,
+    nesting: usize,
+    left: usize,
+    text: &[u8],
+) -> Result<(Condition, usize, &[u8]), TextFault>
+    ensures value { IfOk result (λ x. asking_at (nested_at nesting) left text.now ≡ Some (x.0, x.1, x.2.now)) }
+    ensures bad { result ≡ Err TextFault.Bad → asking_at (nested_at nesting) left text.now ≡ None }
+{
+    if let Some(rest) = strip(text, b"name(") {
         return read_name_asked(alloc, left, rest);
     }
-    if let Some(rest) = text.strip_prefix(b"is(") {
+    if let Some(rest) = strip(text, b"is(") {
         return read_is_asked(alloc, left, rest);
     }
-    if let Some(rest) = text.strip_prefix(b"field(") {
+    if let Some(rest) = strip(text, b"field(") {
         return read_field_asked(alloc, left, rest);
     }
-    if let Some(rest) = text.strip_prefix(b"pv(") {
-        let (op, number, rest) = read_number_asked(rest)?;
-        return Ok((Condition::Pv(op, number), left, rest));
+    if let Some(rest) = strip(text, b"pv(") {
+        return read_pv_asked(left, rest);
     }
-    if let Some(rest) = text.strip_prefix(b"cv(") {
-        let (op, number, rest) = read_number_asked(rest)?;
-        return Ok((Condition::Cv(op, number), left, rest));
+    if let Some(rest) = strip(text, b"cv(") {
+        return read_cv_asked(left, rest);
     }
-    if let Some(rest) = text.strip_prefix(b"kids(") {
-        let (op, number, rest) = read_number_asked(rest)?;
-        return Ok((Condition::Kids(op, number), left, rest));
+    if let Some(rest) = strip(text, b"kids(") {
+        return read_kids_asked(left, rest);
     }
-    if let Some(rest) = text.strip_prefix(b"not(") {
+    read_outer(alloc, nesting, left, text)
+}
+
+// The condition of conditions at the front.
+#[cycle(reading)]
+#[tactic(auto, unfolding(crate::specs::Layers::outer_at))]
+fn read_outer(
+    alloc: Global,
+    nesting: usize,
+    left: usize,
+    text: &[u8],
+) -> Result<(Condition, usize, &[u8]), TextFault>
+    ensures value { IfOk result (λ x. outer_at (nested_at nesting) left text.now ≡ Some (x.0, x.1, x.2.now)) }
+    ensures bad { result ≡ Err TextFault.Bad → outer_at (nested_at nesting) left text.now ≡ None }
+{
+    if let Some(rest) = strip(text, b"not(") {
         return read_not_asked(alloc, nesting, left, rest);
     }
-    if let Some(rest) = text.strip_prefix(b"all(") {
-        let (parts, left, rest) = read_list(alloc, nesting, left, rest)?;
-        return Ok((Condition::All(parts), left, rest));
+    if let Some(rest) = strip(text, b"all(") {
+        return read_all_asked(alloc, nesting, left, rest);
     }
-    if let Some(rest) = text.strip_prefix(b"any(") {
-        let (parts, left, rest) = read_list(alloc, nesting, left, rest)?;
-        return Ok((Condition::Any(parts), left, rest));
+    if let Some(rest) = strip(text, b"any(") {
+        return read_any_asked(alloc, nesting, left, rest);
     }
     Err(TextFault::Bad)
 }
@@ -251,6 +245,36 @@ fn read_not_asked(
     let (inner, left, rest) = read_nested(alloc, nesting, left, text)?;
     let rest = read_mark(rest, b')')?;
     Ok((Condition::Not(Boxed::new(alloc, inner)?), left, rest))
+}
+
+// Behind `all(`.
+#[cycle(reading)]
+fn read_all_asked(
+    alloc: Global,
+    nesting: usize,
+    left: usize,
+    text: &[u8],
+) -> Result<(Condition, usize, &[u8]), TextFault>
+    ensures value { IfOk result (λ x. all_asked (nested_at nesting) left text.now ≡ Some (x.0, x.1, x.2.now)) }
+    ensures bad { result ≡ Err TextFault.Bad → all_asked (nested_at nesting) left text.now ≡ None }
+{
+    let (parts, left, rest) = read_list(alloc, nesting, left, text)?;
+    Ok((Condition::All(parts), left, rest))
+}
+
+// Behind `any(`.
+#[cycle(reading)]
+fn read_any_asked(
+    alloc: Global,
+    nesting: usize,
+    left: usize,
+    text: &[u8],
+) -> Result<(Condition, usize, &[u8]), TextFault>
+    ensures value { IfOk result (λ x. any_asked (nested_at nesting) left text.now ≡ Some (x.0, x.1, x.2.now)) }
+    ensures bad { result ≡ Err TextFault.Bad → any_asked (nested_at nesting) left text.now ≡ None }
+{
+    let (parts, left, rest) = read_list(alloc, nesting, left, text)?;
+    Ok((Condition::Any(parts), left, rest))
 }
 
 // Behind `all(` or `any(`.

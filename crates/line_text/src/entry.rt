@@ -4,7 +4,7 @@ ghost use Rattle.khepri_types.specs.Texts.{entry_text};
 ghost use Rattle.khepri_types.specs.ReadingOut.{command_entry, fire_entry, older_entry, spelled_entry};
 
 use crate::command::{append_command, match_command};
-use crate::words::{append_number, is_word, read_whole_number};
+use crate::words::{append_number, append_word, is_word, read_whole_number};
 use khepri_terms::TextFault;
 use khepri_types::EntryText;
 use std::alloc::{AllocError, Global};
@@ -17,7 +17,7 @@ pub(crate) fn append_entry(text: &EntryText, out: &mut Vec<u8>) -> Result<(), Al
     match text {
         EntryText::Command(cmd) => append_command(cmd, out),
         EntryText::Fire(event) => append_number(b"fire ", *event, out),
-        EntryText::Noop => out.extend_from_slice(b"noop"),
+        EntryText::Noop => append_word(b"noop", out),
     }
 }
 

@@ -2,16 +2,16 @@
 ghost use Rattle.std.specs.Prelude.{◌≡◌, ◌++◌, length, take, IfOk, OnOk, OnErr, MatchOption, Err, Some, None};
 ghost use Rattle.std.specs.List.{flat_map};
 ghost use Rattle.khepri_terms.specs.Many.{many};
+ghost use Rattle.khepri_types.specs.declared.limits.TheConstants.{MAX_GLOB_PIECES};
 ghost use Rattle.khepri_types.specs.Globs.{piece_text, glob_text, piece_at, globbed, glob_at};
 
+use crate::words::append_word;
 use khepri_terms::texts::{print_byte, read_byte};
 use khepri_terms::{Kind, TextFault};
+use khepri_types::limits::MAX_GLOB_PIECES;
 use khepri_types::{Glob, GlobPiece};
 use sqlite_items::Items;
 use std::alloc::{AllocError, Global};
-
-// The greatest number of pieces.
-const MAX_PIECES: usize = 255;
 
 // Appends a byte's spelling, or `*`.
 fn append_piece(piece: &GlobPiece, out: &mut Vec<u8>) -> Result<(), AllocError>
@@ -19,10 +19,9 @@ fn append_piece(piece: &GlobPiece, out: &mut Vec<u8>) -> Result<(), AllocError>
     ensures err { OnErr result (out.new.items ≡ out.old.items) }
 {
     match piece {
-        GlobPiece::Byte(byte) => print_byte(*byte, out)?,
-        GlobPiece::Star => out.push(b'*')?,
+        GlobPiece::Byte(byte) => print_byte(*byte, out),
+        GlobPiece::Star => out.extend_from_slice(b"*"),
     }
-    Ok(())
 }
 
 // Appends the pieces one after another.
@@ -45,7 +44,7 @@ pub(crate) fn append_glob(glob: &Glob, out: &mut Vec<u8>) -> Result<(), AllocErr
 {
     match glob.kind {
         Kind::Atom => {
-            out.push(b':')?;
+            append_word(b":", out)?;
             append_pieces(glob.pieces.as_slice(), out)
         }
         Kind::Text => append_pieces(glob.pieces.as_slice(), out),
@@ -67,13 +66,13 @@ fn read_piece(text: &[u8]) -> Option<(GlobPiece, &[u8])>
     }
 }
 
-// As many pieces as stand at the front, at most 255, and what is after them.
+// As many pieces as stand at the front, at most those of a glob, and what is after them.
 fn read_pieces(alloc: Global, text: &[u8]) -> Result<(Vec<GlobPiece>, &[u8]), AllocError>
-    ensures { IfOk result (λ x. many piece_at 255 text.now ≡ (x.0.items, x.1.now)) }
+    ensures { IfOk result (λ x. many piece_at MAX_GLOB_PIECES text.now ≡ (x.0.items, x.1.now)) }
 {
     let mut pieces = Vec::new(alloc);
     let mut rest = text;
-    'pieces: while pieces.len() < MAX_PIECES {
+    'pieces: while pieces.len() < MAX_GLOB_PIECES {
         match read_piece(rest) {
             Some((piece, after)) => {
                 pieces.push(piece)?;
@@ -87,8 +86,8 @@ fn read_pieces(alloc: Global, text: &[u8]) -> Result<(Vec<GlobPiece>, &[u8]), Al
 
 // The pieces at the front as a glob of this kind, and what is after them.
 fn read_kind(alloc: Global, kind: Kind, text: &[u8]) -> Result<(Glob, &[u8]), TextFault>
-    ensures value { IfOk result (λ x. globbed kind (many piece_at 255 text.now) ≡ Some (x.0, x.1.now)) }
-    ensures bad { result ≡ Err TextFault.Bad → globbed kind (many piece_at 255 text.now) ≡ None }
+    ensures value { IfOk result (λ x. globbed kind (many piece_at MAX_GLOB_PIECES text.now) ≡ Some (x.0, x.1.now)) }
+    ensures bad { result ≡ Err TextFault.Bad → globbed kind (many piece_at MAX_GLOB_PIECES text.now) ≡ None }
 {
     let (pieces, rest) = read_pieces(alloc, text)?;
     if pieces.len() == 0 {

@@ -1,14 +1,17 @@
 // Output lines.
 ghost use Rattle.std.specs.Prelude.{◌≡◌, ◌++◌, ◌∷◌, length, take, codes, IfOk, OnOk, OnErr, MatchOption, Err, Some, None};
-ghost use Rattle.khepri_types.specs.Texts.{reply_text, reason_text, stop_text, rows_text, out_text};
+ghost use Rattle.std.specs.Fmt.{decimal};
+ghost use Rattle.khepri_types.specs.Texts.{entry_text, reply_text, reason_text, stop_text, rows_text, out_text};
 ghost use Rattle.khepri_types.specs.ReadingOut.{spelled_reason, spelled_stop, spelled_rows, entry_line, reply_line, refused_line, end_line, pending_line, rows_line, leads_line, follows_line, stopped_line, node_news, node_line, out_at};
 ghost use Rattle.line_text.specs.Grammar.{SpellsOut, IsNoOut};
 
 use crate::entry::{append_entry, read_entry};
 use crate::reply::{append_reply, read_reply};
-use crate::words::{append_number, append_numbers, is_word, read_number_before, read_whole_number};
+use crate::words::{
+    append_number, append_numbers, append_word, is_word, read_number_before, read_whole_number,
+};
 use khepri_terms::TextFault;
-use khepri_types::{OutLine, Reason, Reply, Rows, StopWord};
+use khepri_types::{EntryText, OutLine, Reason, Reply, Rows, StopWord};
 use std::alloc::{AllocError, Global};
 
 /// Appends the spelling of an output line, its LF not included; where memory is wanting, nothing.
@@ -24,51 +27,82 @@ pub fn print_out(line: &OutLine, out: &mut Vec<u8>) -> Result<(), AllocError>
     printed
 }
 
-#[tactic(auto, unfolding(khepri_types::specs::Texts::out_text), using(khepri_terms::proofs::Printing::front_then))]
+#[tactic(auto, unfolding(khepri_types::specs::Texts::out_text))]
 fn append_out(line: &OutLine, out: &mut Vec<u8>) -> Result<(), AllocError>
     ensures ok { OnOk result (out.new.items ≡ out.old.items ++ out_text line.now) }
     ensures front { take (length out.old.items) out.new.items ≡ out.old.items }
 {
     match line {
-        OutLine::Entry { n, line, text } => {
-            append_numbers(b"# ", *n, b" @", *line, out)?;
-            out.push(b' ')?;
-            append_entry(text, out)
-        }
-        OutLine::Reply { line, n, reply } => {
-            append_numbers(b"= ", *line, b" ", *n, out)?;
-            append_answer(reply, out)
-        }
-        OutLine::Lost { line } => {
-            append_number(b"- ", *line, out)?;
-            out.extend_from_slice(b" lost")
-        }
+        OutLine::Entry { n, line, text } => append_entry_line(*n, *line, text, out),
+        OutLine::Reply { line, n, reply } => append_reply_line(*line, *n, reply, out),
+        OutLine::Lost { line } => append_numbered(b"- ", *line, b" lost", out),
         OutLine::Pending { line, n } => append_numbers(b"? ", *line, b" ", *n, out),
-        OutLine::Read { line, n, rows } => {
-            append_numbers(b"* ", *line, b" ", *n, out)?;
-            append_rows(*rows, out)
-        }
+        OutLine::Read { line, n, rows } => append_read(*line, *n, *rows, out),
         OutLine::Refused { line, reason } => {
-            append_number(b"- ", *line, out)?;
-            append_reason(*reason, out)
+            append_numbered(b"- ", *line, reason_word(*reason), out)
         }
         OutLine::Leads { node, term } => {
-            append_number(b"! ", *node as u64, out)?;
-            append_number(b" leads ", *term, out)
+            append_numbers(b"! ", u64::from(*node), b" leads ", *term, out)
         }
         OutLine::Follows { node, term } => {
-            append_number(b"! ", *node as u64, out)?;
-            append_number(b" follows ", *term, out)
+            append_numbers(b"! ", u64::from(*node), b" follows ", *term, out)
         }
         OutLine::Stopped { node, cause } => {
-            append_number(b"! ", *node as u64, out)?;
-            append_stop(*cause, out)
+            append_numbered(b"! ", u64::from(*node), stop_words(*cause), out)
         }
-        OutLine::Started { node } => {
-            append_number(b"! ", *node as u64, out)?;
-            out.extend_from_slice(b" started")
-        }
+        OutLine::Started { node } => append_numbered(b"! ", u64::from(*node), b" started", out),
     }
+}
+
+// Appends `# N @L ` and what stands there.
+#[tactic(auto, using(khepri_terms::proofs::Printing::front_then))]
+fn append_entry_line(
+    n: u64,
+    line: u64,
+    text: &EntryText,
+    out: &mut Vec<u8>,
+) -> Result<(), AllocError>
+    ensures ok { OnOk result (out.new.items ≡ out.old.items ++ (codes "# " ++ decimal n ++ codes " @" ++ decimal line ++ 32 ∷ entry_text text.now)) }
+    ensures front { take (length out.old.items) out.new.items ≡ out.old.items }
+{
+    append_numbers(b"# ", n, b" @", line, out)?;
+    append_word(b" ", out)?;
+    append_entry(text, out)
+}
+
+// Appends `= L N ` and the reply.
+#[tactic(auto, using(khepri_terms::proofs::Printing::front_then))]
+fn append_reply_line(line: u64, n: u64, reply: &Reply, out: &mut Vec<u8>) -> Result<(), AllocError>
+    ensures ok { OnOk result (out.new.items ≡ out.old.items ++ (codes "= " ++ decimal line ++ 32 ∷ decimal n ++ 32 ∷ reply_text reply.now)) }
+    ensures front { take (length out.old.items) out.new.items ≡ out.old.items }
+{
+    append_numbers(b"= ", line, b" ", n, out)?;
+    append_answer(reply, out)
+}
+
+// Appends a word, a number, and what is behind it.
+#[tactic(auto, using(khepri_terms::proofs::Printing::front_then))]
+fn append_numbered(
+    word: &[u8],
+    number: u64,
+    behind: &[u8],
+    out: &mut Vec<u8>,
+) -> Result<(), AllocError>
+    ensures ok { OnOk result (out.new.items ≡ out.old.items ++ (word.now ++ decimal number ++ behind.now)) }
+    ensures front { take (length out.old.items) out.new.items ≡ out.old.items }
+{
+    append_number(word, number, out)?;
+    append_word(behind, out)
+}
+
+// Appends `* L N ` and the rows.
+#[tactic(auto, using(khepri_terms::proofs::Printing::front_then))]
+fn append_read(line: u64, n: u64, rows: Rows, out: &mut Vec<u8>) -> Result<(), AllocError>
+    ensures ok { OnOk result (out.new.items ≡ out.old.items ++ (codes "* " ++ decimal line ++ 32 ∷ decimal n ++ 32 ∷ rows_text rows)) }
+    ensures front { take (length out.old.items) out.new.items ≡ out.old.items }
+{
+    append_numbers(b"* ", line, b" ", n, out)?;
+    append_word(rows_word(rows), out)
 }
 
 // Appends a space and the spelling of a reply.
@@ -77,51 +111,48 @@ fn append_answer(reply: &Reply, out: &mut Vec<u8>) -> Result<(), AllocError>
     ensures ok { OnOk result (out.new.items ≡ out.old.items ++ 32 ∷ reply_text reply.now) }
     ensures front { take (length out.old.items) out.new.items ≡ out.old.items }
 {
-    out.push(b' ')?;
+    append_word(b" ", out)?;
     append_reply(reply, out)
 }
 
-// Appends a space and the word of a reason.
+// A space and the word of a reason.
 #[tactic(auto, unfolding(khepri_types::specs::Texts::reason_text))]
-fn append_reason(reason: Reason, out: &mut Vec<u8>) -> Result<(), AllocError>
-    ensures ok { OnOk result (out.new.items ≡ out.old.items ++ 32 ∷ reason_text reason) }
-    ensures front { take (length out.old.items) out.new.items ≡ out.old.items }
+fn reason_word(reason: Reason) -> &'static [u8]
+    ensures { result.now ≡ 32 ∷ reason_text reason }
 {
     match reason {
-        Reason::TooLong => out.extend_from_slice(b" toolong"),
-        Reason::BadLine => out.extend_from_slice(b" badline"),
-        Reason::NoNode => out.extend_from_slice(b" nonode"),
-        Reason::Running => out.extend_from_slice(b" running"),
-        Reason::Stopped => out.extend_from_slice(b" stopped"),
-        Reason::NotLeader => out.extend_from_slice(b" notleader"),
-        Reason::LogFull => out.extend_from_slice(b" logfull"),
-        Reason::Backlog => out.extend_from_slice(b" backlog"),
-        Reason::NoSlot => out.extend_from_slice(b" noslot"),
+        Reason::TooLong => b" toolong",
+        Reason::BadLine => b" badline",
+        Reason::NoNode => b" nonode",
+        Reason::Running => b" running",
+        Reason::Stopped => b" stopped",
+        Reason::NotLeader => b" notleader",
+        Reason::LogFull => b" logfull",
+        Reason::Backlog => b" backlog",
+        Reason::NoSlot => b" noslot",
     }
 }
 
-// Appends that the node stopped, and the word of the cause.
+// That the node stopped, and the word of the cause.
 #[tactic(auto, unfolding(khepri_types::specs::Texts::stop_text))]
-fn append_stop(cause: StopWord, out: &mut Vec<u8>) -> Result<(), AllocError>
-    ensures ok { OnOk result (out.new.items ≡ out.old.items ++ codes " stopped " ++ stop_text cause) }
-    ensures front { take (length out.old.items) out.new.items ≡ out.old.items }
+fn stop_words(cause: StopWord) -> &'static [u8]
+    ensures { result.now ≡ codes " stopped " ++ stop_text cause }
 {
     match cause {
-        StopWord::Order => out.extend_from_slice(b" stopped order"),
-        StopWord::Vault => out.extend_from_slice(b" stopped vault"),
-        StopWord::Memory => out.extend_from_slice(b" stopped memory"),
-        StopWord::Bad => out.extend_from_slice(b" stopped bad"),
+        StopWord::Order => b" stopped order",
+        StopWord::Vault => b" stopped vault",
+        StopWord::Memory => b" stopped memory",
+        StopWord::Bad => b" stopped bad",
     }
 }
 
-// Appends a space and the rows.
+// A space and the rows.
 #[tactic(auto, unfolding(khepri_types::specs::Texts::rows_text))]
-fn append_rows(rows: Rows, out: &mut Vec<u8>) -> Result<(), AllocError>
-    ensures ok { OnOk result (out.new.items ≡ out.old.items ++ 32 ∷ rows_text rows) }
-    ensures front { take (length out.old.items) out.new.items ≡ out.old.items }
+fn rows_word(rows: Rows) -> &'static [u8]
+    ensures { result.now ≡ 32 ∷ rows_text rows }
 {
     match rows {
-        Rows::Absent => out.extend_from_slice(b" none"),
+        Rows::Absent => b" none",
     }
 }
 

@@ -1,16 +1,18 @@
 // Patterns.
-ghost use Rattle.std.specs.Prelude.{◌≡◌, ◌++◌, ◌+◌, ◌≤◌, length, take, drop, IfOk, OnOk, OnErr, Err, Some, None};
+ghost use Rattle.std.specs.Prelude.{◌≡◌, ◌++◌, ◌∷◌, [], ◌+◌, ◌≤◌, length, take, drop, IfOk, OnOk, OnErr, Err, Some, None};
 ghost use Rattle.std.specs.List.{flat_map};
 ghost use Rattle.khepri_terms.specs.Many.{many};
+ghost use Rattle.khepri_types.specs.ConditionTexts.{condition_text};
 ghost use Rattle.khepri_types.specs.PatternTexts.{part_text, stage_text, pattern_text};
 ghost use Rattle.khepri_types.specs.ReadingConditions.{meets_at, part_at, stage_at, pattern_at};
 ghost use Rattle.line_text.specs.Conditions.{OnlyPattern, BeginsNoPattern};
 
 use crate::atom::read_mark;
-use crate::condition::{append_condition, read_condition};
+use crate::condition::{append_condition, match_condition};
+use crate::words::append_word;
 use khepri_terms::{Name, TextFault};
 use khepri_types::limits::{MAX_PATTERN_PARTS, MAX_PATTERN_TEXT};
-use khepri_types::{Pattern, PatternPart};
+use khepri_types::{Condition, Pattern, PatternPart};
 use sqlite_items::Items;
 use std::alloc::{AllocError, Global};
 
@@ -40,10 +42,9 @@ fn append_parts(parts: &[PatternPart], out: &mut Vec<u8>) -> Result<(), AllocErr
     ensures front { take (length out.old.items) out.new.items ≡ out.old.items }
 {
     match parts {
-        [] => out.push(b'/')?,
-        [_, ..] => append_stages(parts, out)?,
+        [] => append_word(b"/", out),
+        [_, ..] => append_stages(parts, out),
     }
-    Ok(())
 }
 
 // Appends each part behind a slash.
@@ -64,26 +65,32 @@ fn append_stage(part: &PatternPart, out: &mut Vec<u8>) -> Result<(), AllocError>
     ensures ok { OnOk result (out.new.items ≡ out.old.items ++ stage_text part.now) }
     ensures front { take (length out.old.items) out.new.items ≡ out.old.items }
 {
-    out.push(b'/')?;
+    append_word(b"/", out)?;
     append_part(part, out)
 }
 
-#[tactic(auto, unfolding(khepri_types::specs::PatternTexts::part_text), using(khepri_terms::proofs::Printing::front_then))]
+#[tactic(auto, unfolding(khepri_types::specs::PatternTexts::part_text))]
 fn append_part(part: &PatternPart, out: &mut Vec<u8>) -> Result<(), AllocError>
     ensures ok { OnOk result (out.new.items ≡ out.old.items ++ part_text part.now) }
     ensures front { take (length out.old.items) out.new.items ≡ out.old.items }
 {
     match part {
-        PatternPart::Name(name) => name.print(out)?,
-        PatternPart::One => out.push(b'*')?,
-        PatternPart::Many => out.extend_from_slice(b"**")?,
-        PatternPart::Meets(cond) => {
-            out.push(b'[')?;
-            append_condition(cond, out)?;
-            out.push(b']')?;
-        }
+        PatternPart::Name(name) => name.print(out),
+        PatternPart::One => append_word(b"*", out),
+        PatternPart::Many => append_word(b"**", out),
+        PatternPart::Meets(cond) => append_meets(cond, out),
     }
-    Ok(())
+}
+
+// Appends `[COND]`.
+#[tactic(auto, using(khepri_terms::proofs::Printing::front_then))]
+fn append_meets(cond: &Condition, out: &mut Vec<u8>) -> Result<(), AllocError>
+    ensures ok { OnOk result (out.new.items ≡ out.old.items ++ 91 ∷ (condition_text cond.now ++ 93 ∷ [])) }
+    ensures front { take (length out.old.items) out.new.items ≡ out.old.items }
+{
+    append_word(b"[", out)?;
+    append_condition(cond, out)?;
+    append_word(b"]", out)
 }
 
 /// The pattern at the front, read as far as it goes, and what is after it.
@@ -186,7 +193,7 @@ fn read_meets(alloc: Global, text: &[u8]) -> Result<(PatternPart, &[u8]), TextFa
     ensures value { IfOk result (λ x. meets_at text.now ≡ Some (x.0, x.1.now)) }
     ensures bad { result ≡ Err TextFault.Bad → meets_at text.now ≡ None }
 {
-    let (cond, rest) = read_condition(alloc, text)?;
+    let (cond, rest) = match_condition(alloc, text)?;
     let rest = read_mark(rest, b']')?;
     Ok((PatternPart::Meets(cond), rest))
 }

@@ -3,7 +3,7 @@ ghost use Rattle.std.specs.Prelude.{◌≡◌, ◌++◌, length, take, IfOk, OnO
 ghost use Rattle.khepri_types.specs.Texts.{payload_text};
 ghost use Rattle.khepri_types.specs.Reading.{spelled_payload, payload_at};
 
-use crate::words::is_word;
+use crate::words::{append_word, is_word};
 use khepri_terms::{Rec, TextFault};
 use khepri_types::Payload;
 use std::alloc::{AllocError, Global};
@@ -14,10 +14,9 @@ pub(crate) fn append_payload(payload: &Payload, out: &mut Vec<u8>) -> Result<(),
     ensures front { take (length out.old.items) out.new.items ≡ out.old.items }
 {
     match payload {
-        Payload::Empty => out.push(b'-')?,
-        Payload::Fields(rec) => rec.print(out)?,
+        Payload::Empty => append_word(b"-", out),
+        Payload::Fields(rec) => rec.print(out),
     }
-    Ok(())
 }
 
 /// The payload at the front, and what is after it.

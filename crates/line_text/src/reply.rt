@@ -1,14 +1,18 @@
 // Replies.
-ghost use Rattle.std.specs.Prelude.{◌≡◌, ◌++◌, length, take, IfOk, OnOk, OnErr, MatchOption, Err, Some, None};
-ghost use Rattle.khepri_types.specs.Texts.{reply_text};
+ghost use Rattle.std.specs.Prelude.{◌≡◌, ◌++◌, length, take, codes, IfOk, OnOk, OnErr, MatchOption, Err, Some, None};
+ghost use Rattle.std.specs.List.{flat_map};
+ghost use Rattle.std.specs.Fmt.{decimal};
+ghost use Rattle.khepri_types.specs.Texts.{shown_text, reply_text};
 ghost use Rattle.khepri_types.specs.ReadingOut.{changed_at, node_at, count_at, while_no, spelled_no, spelled_reply};
 
-use crate::command::read_whole_path;
+use crate::command::{append_path, read_whole_path};
 use crate::payload::read_whole_payload;
 use crate::shown::{append_content, append_shown_nodes, read_nodes};
-use crate::words::{append_number, is_word, read_number_before, read_whole_number};
+use crate::words::{
+    append_number, append_numbers, append_word, is_word, read_number_before, read_whole_number,
+};
 use khepri_terms::TextFault;
-use khepri_types::Reply;
+use khepri_types::{Reply, ShownNodes};
 use std::alloc::{AllocError, Global};
 
 /// Appends the spelling of a reply; where memory is wanting, nothing.
@@ -24,38 +28,39 @@ pub fn print_reply(reply: &Reply, out: &mut Vec<u8>) -> Result<(), AllocError>
     printed
 }
 
-#[tactic(auto, unfolding(khepri_types::specs::Texts::reply_text), using(khepri_terms::proofs::Printing::front_then))]
+#[tactic(auto, unfolding(khepri_types::specs::Texts::reply_text))]
 pub(crate) fn append_reply(reply: &Reply, out: &mut Vec<u8>) -> Result<(), AllocError>
     ensures ok { OnOk result (out.new.items ≡ out.old.items ++ reply_text reply.now) }
     ensures front { take (length out.old.items) out.new.items ≡ out.old.items }
 {
     match reply {
-        Reply::Changed { count, gone } => {
-            append_number(b"ok ", *count, out)?;
-            append_number(b" ", *gone, out)
-        }
+        Reply::Changed { count, gone } => append_numbers(b"ok ", *count, b" ", *gone, out),
         Reply::Node {
             pv,
             cv,
             kids,
             payload,
         } => append_content(b"node ", *pv, *cv, *kids, payload, out),
-        Reply::Nodes { count, nodes } => {
-            append_number(b"nodes ", *count, out)?;
-            append_shown_nodes(nodes.as_slice(), out)
-        }
+        Reply::Nodes { count, nodes } => append_nodes(*count, nodes, out),
         Reply::Count { count } => append_number(b"count ", *count, out),
-        Reply::NoRoot => out.extend_from_slice(b"no root"),
-        Reply::NoDeep => out.extend_from_slice(b"no deep"),
-        Reply::NoExists => out.extend_from_slice(b"no exists"),
-        Reply::NoAbsent => out.extend_from_slice(b"no absent"),
-        Reply::NoMismatch => out.extend_from_slice(b"no mismatch"),
-        Reply::NoWhile { target } => {
-            out.extend_from_slice(b"no while ")?;
-            target.print(out)
-        }
-        Reply::NoFull => out.extend_from_slice(b"no full"),
+        Reply::NoRoot => append_word(b"no root", out),
+        Reply::NoDeep => append_word(b"no deep", out),
+        Reply::NoExists => append_word(b"no exists", out),
+        Reply::NoAbsent => append_word(b"no absent", out),
+        Reply::NoMismatch => append_word(b"no mismatch", out),
+        Reply::NoWhile { target } => append_path(b"no while ", target, out),
+        Reply::NoFull => append_word(b"no full", out),
     }
+}
+
+// Appends `nodes M`, and the nodes one after another.
+#[tactic(auto, using(khepri_terms::proofs::Printing::front_then))]
+fn append_nodes(count: u64, nodes: &ShownNodes, out: &mut Vec<u8>) -> Result<(), AllocError>
+    ensures ok { OnOk result (out.new.items ≡ out.old.items ++ (codes "nodes " ++ decimal count ++ flat_map shown_text nodes.now)) }
+    ensures front { take (length out.old.items) out.new.items ≡ out.old.items }
+{
+    append_number(b"nodes ", count, out)?;
+    append_shown_nodes(nodes.as_slice(), out)
 }
 
 // Behind `ok `.

@@ -8,7 +8,7 @@ ghost use Rattle.khepri_types.specs.ReadingOut.{shown_at, nodes_at};
 
 use crate::atom::read_mark;
 use crate::payload::{append_payload, read_payload};
-use crate::words::{append_number, read_number_before};
+use crate::words::{append_number, append_word, read_number_before};
 use khepri_terms::numbers::read_number;
 use khepri_terms::{Path, TextFault};
 use khepri_types::limits::MAX_NUMBER;
@@ -33,7 +33,7 @@ fn append_shown(node: &ShownNode, out: &mut Vec<u8>) -> Result<(), AllocError>
     ensures ok { OnOk result (out.new.items ≡ out.old.items ++ shown_text node.now) }
     ensures front { take (length out.old.items) out.new.items ≡ out.old.items }
 {
-    out.push(b' ')?;
+    append_word(b" ", out)?;
     node.path.print(out)?;
     append_content(b" ", node.pv, node.cv, node.kids, &node.payload, out)
 }
@@ -48,11 +48,11 @@ pub(crate) fn append_content(
     payload: &Payload,
     out: &mut Vec<u8>,
 ) -> Result<(), AllocError>
-    ensures ok { OnOk result (out.new.items ≡ out.old.items ++ word.now ++ (decimal pv ++ (32 ∷ (decimal cv ++ (32 ∷ (decimal kids ++ (32 ∷ payload_text payload.now))))))) }
+    ensures ok { OnOk result (out.new.items ≡ out.old.items ++ (word.now ++ decimal pv ++ 32 ∷ decimal cv ++ 32 ∷ decimal kids ++ 32 ∷ payload_text payload.now)) }
     ensures front { take (length out.old.items) out.new.items ≡ out.old.items }
 {
     append_three(word, pv, cv, kids, out)?;
-    out.push(b' ')?;
+    append_word(b" ", out)?;
     append_payload(payload, out)
 }
 
@@ -65,7 +65,7 @@ fn append_three(
     kids: u64,
     out: &mut Vec<u8>,
 ) -> Result<(), AllocError>
-    ensures ok { OnOk result (out.new.items ≡ out.old.items ++ word.now ++ (decimal pv ++ (32 ∷ (decimal cv ++ (32 ∷ decimal kids))))) }
+    ensures ok { OnOk result (out.new.items ≡ out.old.items ++ (word.now ++ decimal pv ++ 32 ∷ decimal cv ++ 32 ∷ decimal kids)) }
     ensures front { take (length out.old.items) out.new.items ≡ out.old.items }
 {
     append_number(word, pv, out)?;

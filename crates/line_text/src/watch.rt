@@ -8,8 +8,8 @@ ghost use Rattle.khepri_types.specs.Texts.{watch_text, watching_text};
 ghost use Rattle.khepri_types.specs.Reading.{watch_at, whole_watches, spelled_watching};
 
 use crate::atom::read_mark;
-use crate::condition::{append_condition, read_condition};
-use crate::words::{after, is_word};
+use crate::condition::{append_condition, match_condition};
+use crate::words::{after, append_word, is_word};
 use khepri_terms::{Path, TextFault};
 use khepri_types::limits::MAX_WATCHES;
 use khepri_types::{Condition, Watch, Watches, Watching};
@@ -23,7 +23,7 @@ pub(crate) fn append_watching(watch: &Watching, out: &mut Vec<u8>) -> Result<(),
 {
     match watch {
         Watching::Stay => Ok(()),
-        Watching::Free => out.extend_from_slice(b" free"),
+        Watching::Free => append_word(b" free", out),
         Watching::While(watches) => append_watches(watches.as_slice(), out),
     }
 }
@@ -46,7 +46,7 @@ fn append_watch(watch: &Watch, out: &mut Vec<u8>) -> Result<(), AllocError>
     ensures ok { OnOk result (out.new.items ≡ out.old.items ++ watch_text watch.now) }
     ensures front { take (length out.old.items) out.new.items ≡ out.old.items }
 {
-    out.extend_from_slice(b" while ")?;
+    append_word(b" while ", out)?;
     append_asked(&watch.target, &watch.cond, out)
 }
 
@@ -61,7 +61,7 @@ pub(crate) fn append_asked(
     ensures front { take (length out.old.items) out.new.items ≡ out.old.items }
 {
     path.print(out)?;
-    out.push(b' ')?;
+    append_word(b" ", out)?;
     append_condition(cond, out)
 }
 
@@ -127,6 +127,6 @@ fn read_watch(alloc: Global, text: &[u8]) -> Result<(Watch, &[u8]), TextFault>
     };
     let (target, rest) = Path::read(alloc, rest)?;
     let rest = read_mark(rest, b' ')?;
-    let (cond, rest) = read_condition(alloc, rest)?;
+    let (cond, rest) = match_condition(alloc, rest)?;
     Ok((Watch { target, cond }, rest))
 }

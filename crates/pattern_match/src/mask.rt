@@ -1,8 +1,9 @@
 ghost use Rattle.std.specs.Prelude.{◌≡◌, ◌∷◌, [], ◌++◌, ◌≤◌, ◌<◌, ◌+◌, ◌||◌, ◌≢◌, ℕ, suc, true, false, List, IsTrue, Some, length};
 ghost use Rattle.khepri_terms.specs.Terms.{NameText};
+ghost use Rattle.khepri_types.specs.declared.limits.TheConstants.{MAX_PATTERN_PARTS};
 ghost use Rattle.khepri_types.specs.Tree.{Tree, stands};
 ghost use Rattle.khepri_types.specs.Conditions.{seen_at};
-ghost use Rattle.khepri_types.specs.Views.{shown};
+ghost use Rattle.khepri_types.specs.Views.{as_seen};
 ghost use Rattle.khepri_types.specs.Patterns.{is_many, matches};
 ghost use Rattle.pattern_match.specs.Masks.{has, IsMask};
 ghost use Rattle.pattern_match.specs.Steps.{takes_node, part_next, has_next};
@@ -25,7 +26,7 @@ impl Mask {
 
     /// The mask of a child node, from the mask of its parent.
     pub fn step(self, pattern: &Pattern, node: &NodeView) -> Mask
-        ensures { (T : Tree) (p : List NameText) (n : NameText) → seen_at T (p ++ n ∷ []) ≡ Some (shown node.now) → IsMask pattern.now T p self → IsMask pattern.now T (p ++ n ∷ []) result }
+        ensures { (T : Tree) (p : List NameText) (n : NameText) → seen_at T (p ++ n ∷ []) ≡ Some (as_seen node.now) → IsMask pattern.now T p self → IsMask pattern.now T (p ++ n ∷ []) result }
     {
         next_mask(self, pattern.parts(), node)
     }
@@ -70,7 +71,7 @@ fn is_many(part: &PatternPart) -> bool
 
 // Whether the part takes the name of the node.
 fn takes_node(part: &PatternPart, node: &NodeView) -> bool
-    ensures { result ≡ takes_node part.now (shown node.now) }
+    ensures { result ≡ takes_node part.now (as_seen node.now) }
 {
     match part {
         PatternPart::Name(name) => match node.name {
@@ -85,8 +86,8 @@ fn takes_node(part: &PatternPart, node: &NodeView) -> bool
 
 // No part takes no name.
 fn first_mask() -> Mask
-    ensures none { has result 0 ≡ true }
-    ensures some { (i : ℕ) → has result (suc i) ≡ false }
+    ensures no_part { has result 0 ≡ true }
+    ensures some_parts { (i : ℕ) → has result (suc i) ≡ false }
 {
     Mask { bits: 1 }
 }
@@ -94,7 +95,7 @@ fn first_mask() -> Mask
 // Whether the names so far and the node's are taken by the parts up to this one, which stands behind as many as `before`.
 fn goes_on(mask: Mask, part: &PatternPart, before: usize, node: &NodeView) -> bool
     requires { before < 63 }
-    ensures { result ≡ part_next (shown node.now) mask before (Some part.now) }
+    ensures { result ≡ part_next (as_seen node.now) mask before (Some part.now) }
 {
     if mask.has(before) || is_many(part) && mask.has(before + 1) {
         takes_node(part, node)
@@ -105,8 +106,8 @@ fn goes_on(mask: Mask, part: &PatternPart, before: usize, node: &NodeView) -> bo
 
 // The numbers of parts that take the names so far and the node's.
 fn next_mask(mask: Mask, parts: &[PatternPart], node: &NodeView) -> Mask
-    requires { length parts.now ≤ 32 }
-    ensures { (i : ℕ) → i ≤ length parts.now → has result i ≡ has_next parts.now (shown node.now) mask i }
+    requires { length parts.now ≤ MAX_PATTERN_PARTS }
+    ensures { (i : ℕ) → i ≤ length parts.now → has result i ≡ has_next parts.now (as_seen node.now) mask i }
 {
     let mut next = Mask { bits: 0 };
     for (i, part) in parts.iter().enumerate() {

@@ -40,7 +40,7 @@ more_than_none n = grind arith
 same_count : (a b : ℕ) → a ≡ b → ltb 0 a ≡ ltb 0 b
 same_count a b e = ap (ltb 0) e
 
-lost_any : (ps : List (List NameText)) (q : List NameText) (es : List Entry) → ltb 0 (children (going ps es) q) ≡ loses_child es ps q
+pub lost_any : (ps : List (List NameText)) (q : List NameText) (es : List Entry) → ltb 0 (children (going ps es) q) ≡ loses_child es ps q
 lost_any ps q [] = refl
 lost_any ps q (x ∷ es) = elim (is_under ps x.0) as (λ u. ltb 0 (children (cond u (x ∷ going ps es) (going ps es)) q) ≡ ((is_child q x.0 && u) || loses_child es ps q)) [
   | true ↦ same_count (children (x ∷ going ps es) q) (flag q x.0 + children (going ps es) q) (sum_by-cons (λ (y : Entry). flag q y.0) x (going ps es))

@@ -7,5 +7,7 @@ pub mod Nexts
 pub mod Cuts
 pub mod Lefts
 pub mod ByteSums
+pub mod Touching
+pub mod Alls
 pub mod Commas
 pub mod Walking

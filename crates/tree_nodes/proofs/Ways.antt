@@ -100,7 +100,7 @@ made-kept es ks p i x at j kj kept lt short standing none few place parent count
 
 -- ---- along the way
 
-apart_at : (p : List NameText) (i j : ℕ) → i < j → j ≤ length p → take j p ≡ take i p → ⊥
+pub apart_at : (p : List NameText) (i j : ℕ) → i < j → j ≤ length p → take j p ≡ take i p → ⊥
 apart_at p i j lt top same = absurd (omega (arith, front-length p j i top (omega arith) same))
 
 -- the tree once the longest standing front was told

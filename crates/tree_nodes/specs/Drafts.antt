@@ -1,11 +1,46 @@
 -- What a draft shows.
+use Rattle.std.specs.Prelude.{◌≡◌, Bool, false, IsTrue, List}
+use Rattle.std.specs.List.{list_any}
+use Rattle.std.specs.List.Sorted.{IsStrictlySortedBy}
+use Rattle.std.specs.Ordering.{is_eq}
+use Rattle.std.specs.FinMap.{get}
+use Rattle.khepri_terms.specs.Terms.{NameText}
+use Rattle.khepri_terms.specs.Order.{path_cmp}
 use Rattle.khepri_types.specs.Tree.{Tree}
 
--- the tree under a draft, and the draft's own tree
+-- the tree under a draft, the draft's own tree, and the paths that were touched, in order
 pub record Drafted : Type 0 where
   pub base : Tree
   pub tree : Tree
+  pub touched : List (List NameText)
 
--- what a draft came to
+-- what a draft came to: the tree that was under it, its own, and the paths that were touched
 pub record Drawn : Type 0 where
+  pub base : Tree
   pub tree : Tree
+  pub touched : List (List NameText)
+
+-- whether q is one of the touched paths
+abbrev pub is_touched : List (List NameText) → List NameText → Bool
+is_touched touched q = list_any (λ p. is_eq (path_cmp q p)) touched
+
+abbrev pub IsTouched : List (List NameText) → List NameText → Type 0
+IsTouched touched q = IsTrue (is_touched touched q)
+
+-- the touched paths rise strictly
+abbrev pub IsRising : List (List NameText) → Type 0
+IsRising touched = IsStrictlySortedBy path_cmp touched
+
+-- what was touched stays so
+abbrev pub StaysTouched : List (List NameText) → List (List NameText) → Type 0
+StaysTouched old new = (q : List NameText) → IsTouched old q → IsTouched new q
+
+-- each path at which T and U differ is touched
+abbrev pub IsCovered : Tree → Tree → List (List NameText) → Type 0
+IsCovered T U touched = (q : List NameText) → is_touched touched q ≡ false → get T q ≡ get U q
+
+-- those paths are touched that were, and those at which T and U differ
+pub record Touches (T U : Tree) (old new : List (List NameText)) : Type 0 where
+  pub stays : StaysTouched old new
+  pub covers : IsCovered T U new
+  pub only : (q : List NameText) → is_touched old q ≡ false → IsTouched new q → get T q ≡ get U q → ⊥

@@ -1,9 +1,10 @@
 // Copies of nodes, with memory of their own.
-ghost use Rattle.std.specs.Prelude.{◌≡◌, IfOk};
+ghost use Rattle.std.specs.Prelude.{◌≡◌, IfOk, map};
 ghost use Rattle.khepri_types.specs.declared.node.Node.{Node};
+ghost use Rattle.tree_nodes.specs.Parts.{entry_of};
 
 use khepri_terms::Path;
-use khepri_types::{Node, Watch, Watches};
+use khepri_types::{Node, NodePart, Watch, Watches};
 use std::alloc::{AllocError, Global};
 
 fn copy_watch(alloc: Global, watch: &Watch) -> Result<Watch, AllocError>
@@ -49,6 +50,34 @@ pub(crate) fn copy_nodes(
     let mut all = Vec::with_capacity(alloc, nodes.len())?;
     for entry in nodes {
         all.push(copy_entry(alloc, entry)?)?;
+    }
+    Ok(all)
+}
+
+fn part_entry(alloc: Global, part: &NodePart) -> Result<(Path, Node), AllocError>
+    ensures { IfOk result (λ e. e ≡ entry_of part.now) }
+{
+    Ok((
+        part.path.copy()?,
+        Node {
+            payload: part.payload.copy()?,
+            pv: part.pv,
+            cv: part.cv,
+            watches: copy_watches(alloc, part.watches.as_slice())?,
+        },
+    ))
+}
+
+// The paths and nodes of these parts.
+pub(crate) fn part_entries(
+    alloc: Global,
+    parts: &[NodePart],
+) -> Result<Vec<(Path, Node)>, AllocError>
+    ensures { IfOk result (λ v. v.items ≡ map entry_of parts.now) }
+{
+    let mut all = Vec::with_capacity(alloc, parts.len())?;
+    for part in parts {
+        all.push(part_entry(alloc, part)?)?;
     }
     Ok(all)
 }

@@ -1,5 +1,5 @@
 // How nodes leave a tree.
-ghost use Rattle.std.specs.Prelude.{◌≡◌, ◌<◌, ◌≤◌, ◌+◌, ◌-◌, ◌^◌, ◌++◌, ◌∷◌, ◌||◌, ℕ, Bool, List, false, [], Some, IfOk, OnOk, IsTrue, if◌then◌else◌, ltb, length, map, take, slice_get, slice_index_or};
+ghost use Rattle.std.specs.Prelude.{◌≡◌, ◌<◌, ◌≤◌, ◌+◌, ◌-◌, ◌^◌, ◌++◌, ◌∷◌, ◌||◌, ℕ, Bool, List, false, [], Some, IfOk, OnOk, OnErr, IsTrue, if◌then◌else◌, ltb, length, map, take, slice_get, slice_index_or};
 ghost use Rattle.std.specs.List.{filter};
 ghost use Rattle.std.specs.Ordering.{is_eq};
 ghost use Rattle.std.specs.Vec.{vec_len, vec_capacity};
@@ -10,15 +10,18 @@ ghost use Rattle.khepri_types.specs.declared.node.Node.{Node};
 ghost use Rattle.khepri_types.specs.Drop.{drop, left_nodes};
 ghost use Rattle.khepri_types.specs.Paths.{is_child, is_under};
 ghost use Rattle.khepri_types.specs.Tree.{IsTree, raised_children};
-ghost use Rattle.tree_nodes.specs.Kept.{IsKept, children, nodes_bytes};
+ghost use Rattle.tree_nodes.specs.Kept.{IsKept, all_kids, children, nodes_bytes};
 ghost use Rattle.tree_nodes.specs.Cuts.{is_among, is_below, going};
+ghost use Rattle.tree_nodes.specs.Drafts.{StaysTouched, Touches};
 
 use crate::nodes::{raise_children, slot};
 use crate::sizes::{going_len, recount};
 use crate::store::Store;
+use crate::touched::note_cuts;
 use khepri_terms::Path;
 use khepri_types::Node;
 use std::alloc::{AllocError, Global};
+use std::collections::BTreeSet;
 
 // Marks the node at the path, if it stands.
 fn mark(marks: &mut Vec<bool>, nodes: &[(Path, Node)], path: &Path)
@@ -131,6 +134,27 @@ fn losses(
     Ok(lost)
 }
 
+// The root's path alone.
+fn roots(alloc: Global) -> Result<Vec<Path>, AllocError>
+    ensures { IfOk result (λ v. v.items ≡ [] ∷ []) }
+{
+    let mut roots = Vec::new(alloc);
+    roots.push(Path::root(alloc))?;
+    Ok(roots)
+}
+
+// How many children each node has: those that it would lose where all nodes go.
+pub(crate) fn count_children(alloc: Global, nodes: &[(Path, Node)]) -> Result<Vec<u64>, AllocError>
+    requires sorted { IsTrue (is_sorted path_cmp nodes.now) }
+    requires tree { IsTree (from_sorted {R = path_cmp} nodes.now) }
+    ensures { IfOk result (λ v. v.items ≡ all_kids nodes.now) }
+{
+    let roots = roots(alloc)?;
+    let gone = leaving(alloc, nodes, roots.as_slice())?;
+    let kids = losses(alloc, nodes, roots.as_slice(), gone.as_slice())?;
+    Ok(kids)
+}
+
 // A node that stays, which loses so many children.
 fn left_entry(entry: (Path, Node), lost: u64) -> (Path, Node)
     ensures path { result.0 ≡ entry.0 }
@@ -210,8 +234,13 @@ impl Store {
         self.kids = kids;
     }
 
-    // Drops the nodes at these paths and all below them; answers how many they were.
-    pub(crate) fn drop_all(&mut self, paths: &[Path]) -> Result<u64, AllocError>
+    // Drops the nodes at these paths and all below them; answers how many they were. Notes the paths at which that changes a
+    // node, before it does.
+    pub(crate) fn drop_all(
+        &mut self,
+        paths: &[Path],
+        touched: &mut BTreeSet<Path>,
+    ) -> Result<u64, AllocError>
         requires kept { IsKept self.old.nodes.items self.old.kids.items }
         requires bytes { self.old.bytes ≡ nodes_bytes self.old.nodes.items }
         requires below { is_under paths.now [] ≡ false }
@@ -219,12 +248,22 @@ impl Store {
         ensures bytes { self.new.bytes ≡ nodes_bytes self.new.nodes.items }
         ensures tree { OnOk result (from_sorted {R = path_cmp} self.new.nodes.items ≡ drop (from_sorted {R = path_cmp} self.old.nodes.items) paths.now) }
         ensures count { IfOk result (λ n. n ≡ len (from_sorted {R = path_cmp} self.old.nodes.items) - len (from_sorted {R = path_cmp} self.new.nodes.items)) }
+        ensures stays { StaysTouched touched.old.keys touched.new.keys }
+        ensures touches { OnOk result (Touches (from_sorted {R = path_cmp} self.old.nodes.items) (from_sorted {R = path_cmp} self.new.nodes.items) touched.old.keys touched.new.keys) }
+        ensures same { OnErr result (self.new.nodes.items ≡ self.old.nodes.items) }
     {
         let before = self.nodes.len();
         let gone = leaving(self.alloc, self.nodes.as_slice(), paths)?;
         let lost = losses(self.alloc, self.nodes.as_slice(), paths, gone.as_slice())?;
         let room = Vec::with_capacity(self.alloc, before)?;
         let kid_room = Vec::with_capacity(self.alloc, before)?;
+        note_cuts(
+            touched,
+            self.nodes.as_slice(),
+            paths,
+            gone.as_slice(),
+            lost.as_slice(),
+        )?;
         self.sift(paths, gone.as_slice(), lost.as_slice(), room, kid_room);
         Ok((before - self.nodes.as_slice().len()) as u64)
     }

@@ -1,6 +1,8 @@
 // How nodes come to a tree.
-ghost use Rattle.std.specs.Prelude.{◌≡◌, ◌<◌, ◌≤◌, ◌+◌, ◌-◌, ◌^◌, IfOk, OnOk, OnErr, IsTrue, is_some, length, take, Some, None, insert, slice_set, slice_index_or};
+ghost use Rattle.std.specs.Prelude.{◌≡◌, ◌<◌, ◌≤◌, ◌+◌, ◌-◌, ◌^◌, List, IfOk, OnOk, OnErr, IsTrue, is_some, length, take, Some, None, insert, slice_set, slice_index_or};
+ghost use Rattle.std.specs.Option.{option_map};
 ghost use Rattle.std.specs.FinMap.{find, put, is_sorted, from_sorted, get};
+ghost use Rattle.khepri_terms.specs.Terms.{NameText};
 ghost use Rattle.khepri_terms.specs.Order.{path_cmp};
 ghost use Rattle.khepri_types.specs.declared.node.Node.{Node};
 ghost use Rattle.khepri_types.specs.declared.limits.TheConstants.{MAX_PATH_NAMES};
@@ -8,6 +10,7 @@ ghost use Rattle.khepri_types.specs.Exec.{pv_of};
 ghost use Rattle.khepri_types.specs.Tree.{fresh, raised, raised_children, set};
 ghost use Rattle.tree_nodes.specs.Kept.{IsKept, nodes_bytes};
 ghost use Rattle.tree_nodes.specs.Slots.{Finds, RaisesAt};
+ghost use Rattle.tree_nodes.specs.Notes.{IsOff, IsPartOf};
 
 use crate::nodes::{make_node, place, raise, raise_children, slot, standing_front};
 use crate::sizes::node_len;
@@ -73,6 +76,7 @@ impl Store {
         ensures kept { IsKept self.new.nodes.items self.new.kids.items }
         ensures bytes { self.new.bytes ≡ nodes_bytes self.new.nodes.items }
         ensures made { OnOk result (self.new.nodes.items ≡ put path_cmp (take (above + 1) path.now) (fresh payload) self.old.nodes.items) }
+        ensures same { OnErr result (self.new.nodes.items ≡ self.old.nodes.items) }
     {
         self.add(path, above + 1, payload)?;
         self.count_child(path, above);
@@ -106,6 +110,8 @@ impl Store {
         ensures kept { IsKept self.new.nodes.items self.new.kids.items }
         ensures bytes { self.new.bytes ≡ nodes_bytes self.new.nodes.items }
         ensures built { OnOk result (from_sorted {R = path_cmp} self.new.nodes.items ≡ set (from_sorted {R = path_cmp} self.old.nodes.items) path.now payload) }
+        ensures others { (q : List NameText) → IsOff path.now above q → get (from_sorted {R = path_cmp} self.old.nodes.items) q ≡ get (from_sorted {R = path_cmp} self.new.nodes.items) q }
+        ensures parent { get (from_sorted {R = path_cmp} self.new.nodes.items) (take above path.now) ≡ option_map raised_children (get (from_sorted {R = path_cmp} self.old.nodes.items) (take above path.now)) }
     {
         let last = path.len() - 1;
         self.announce_child(path, above);
@@ -126,6 +132,7 @@ impl Store {
         ensures bytes { self.new.bytes ≡ nodes_bytes self.new.nodes.items }
         ensures tree { OnOk result (from_sorted {R = path_cmp} self.new.nodes.items ≡ set (from_sorted {R = path_cmp} self.old.nodes.items) path.now payload.now) }
         ensures version { IfOk result (λ v. v ≡ pv_of (get (from_sorted {R = path_cmp} self.new.nodes.items) path.now)) }
+        ensures part { IsPartOf (from_sorted {R = path_cmp} self.old.nodes.items) (set (from_sorted {R = path_cmp} self.old.nodes.items) path.now payload.now) (from_sorted {R = path_cmp} self.new.nodes.items) }
     {
         let above = standing_front(self.nodes.as_slice(), path);
         self.build(path, above, payload.copy()?)?;
@@ -141,6 +148,7 @@ impl Store {
         ensures bytes { self.new.bytes ≡ nodes_bytes self.new.nodes.items }
         ensures tree { OnOk result (from_sorted {R = path_cmp} self.new.nodes.items ≡ set (from_sorted {R = path_cmp} self.old.nodes.items) path.now payload.now) }
         ensures version { IfOk result (λ v. v ≡ pv_of (get (from_sorted {R = path_cmp} self.new.nodes.items) path.now)) }
+        ensures part { IsPartOf (from_sorted {R = path_cmp} self.old.nodes.items) (set (from_sorted {R = path_cmp} self.old.nodes.items) path.now payload.now) (from_sorted {R = path_cmp} self.new.nodes.items) }
     {
         match place(self.nodes.as_slice(), path) {
             None => self.grow(path, payload),

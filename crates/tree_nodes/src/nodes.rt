@@ -7,7 +7,7 @@ ghost use Rattle.khepri_types.specs.declared.node.Node.{Node};
 ghost use Rattle.khepri_types.specs.Tree.{fresh, raised, raised_children, written};
 ghost use Rattle.khepri_types.specs.Paths.{is_front};
 ghost use Rattle.khepri_types.specs.Conditions.{last_name};
-ghost use Rattle.khepri_types.specs.Views.{shown, node_of};
+ghost use Rattle.khepri_types.specs.Views.{as_seen, node_of};
 ghost use Rattle.tree_nodes.specs.Slots.{Finds};
 
 use khepri_terms::{Name, Path};
@@ -174,7 +174,7 @@ fn last_name(path: &Path) -> Option<&Name>
 
 // The entry's node as conditions see it, with its number of children.
 pub(crate) fn view(entry: &(Path, Node), kids: u64) -> NodeView
-    ensures shown { shown result ≡ record { name = last_name entry.now.0; payload = entry.now.1.payload; pv = entry.now.1.pv; cv = entry.now.1.cv; kids = kids } }
+    ensures shown { as_seen result ≡ record { name = last_name entry.now.0; payload = entry.now.1.payload; pv = entry.now.1.pv; cv = entry.now.1.cv; kids = kids } }
     ensures node { node_of result ≡ entry.now.1 }
 {
     let node = &entry.1;

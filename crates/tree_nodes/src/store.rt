@@ -1,8 +1,8 @@
 // The nodes of a tree, with what is counted of them.
-ghost use Rattle.std.specs.Prelude.{◌≡◌, ◌<◌, ◌≤◌, List, IfOk, OnOk, IsTrue, slice_set, slice_get, is_some, IfSome, Some};
+ghost use Rattle.std.specs.Prelude.{◌≡◌, ◌<◌, ◌≤◌, List, IfOk, OnOk, IsTrue, slice_set, slice_get, is_some, IfSome, Some, OnErr, map};
 ghost use Rattle.std.specs.Option.{option_copied};
 ghost use Rattle.std.specs.Vec.{vec_len};
-ghost use Rattle.std.specs.FinMap.{put, from_sorted, get, len, find};
+ghost use Rattle.std.specs.FinMap.{put, from_sorted, get, is_sorted, len, find};
 ghost use Rattle.khepri_terms.specs.Terms.{NameText};
 ghost use Rattle.khepri_terms.specs.Order.{path_cmp, name_cmp};
 ghost use Rattle.khepri_types.specs.declared.node.Node.{Node};
@@ -13,16 +13,19 @@ ghost use Rattle.khepri_types.specs.Sizes.{bytes, node_bytes};
 ghost use Rattle.khepri_types.specs.Tree.{IsTree, opening_tree, set, stands};
 ghost use Rattle.khepri_types.specs.Views.{seen_of, node_of};
 ghost use Rattle.khepri_types.specs.Watching.{given_watches};
-ghost use Rattle.tree_nodes.specs.Kept.{IsKept, nodes_bytes};
+ghost use Rattle.tree_nodes.specs.Kept.{IsKept, IsShallow, nodes_bytes};
 ghost use Rattle.tree_nodes.specs.Next.{HasChild, IsNext};
+ghost use Rattle.tree_nodes.specs.Notes.{IsPartOf};
+ghost use Rattle.tree_nodes.specs.Parts.{entry_of, tree_of};
 ghost use Rattle.tree_nodes.specs.Slots.{Finds};
 
-use crate::copies::{copy_nodes, copy_watches};
+use crate::copies::{copy_nodes, copy_watches, part_entries};
+use crate::cut::count_children;
 use crate::next::next_child;
 use crate::nodes::{fresh_node, give_watches, place, view, write_entry};
 use crate::sizes::{node_len, nodes_len, recount};
 use khepri_terms::{Name, Path};
-use khepri_types::{Node, NodeView, Payload, Watch};
+use khepri_types::{Node, NodePart, NodeView, Payload, Watch};
 use std::alloc::{AllocError, Global};
 
 // Paths and nodes in order of path, the number of children of each, and the bytes of all.
@@ -45,6 +48,26 @@ impl Store {
         nodes.push((Path::root(alloc), fresh_node(alloc, Payload::Empty)))?;
         let mut kids = Vec::new(alloc);
         kids.push(0)?;
+        let bytes = nodes_len(nodes.as_slice());
+        Ok(Store {
+            alloc,
+            nodes,
+            kids,
+            bytes,
+        })
+    }
+
+    // The nodes of these parts.
+    pub(crate) fn of(alloc: Global, parts: &[NodePart]) -> Result<Store, AllocError>
+        requires sorted { IsTrue (is_sorted path_cmp (map entry_of parts.now)) }
+        requires tree { IsTree (tree_of parts.now) }
+        requires shallow { IsShallow (tree_of parts.now) }
+        ensures kept { IfOk result (λ s. IsKept s.nodes.items s.kids.items) }
+        ensures tree { IfOk result (λ s. from_sorted {R = path_cmp} s.nodes.items ≡ tree_of parts.now) }
+        ensures bytes { IfOk result (λ s. s.bytes ≡ nodes_bytes s.nodes.items) }
+    {
+        let nodes = part_entries(alloc, parts)?;
+        let kids = count_children(alloc, nodes.as_slice())?;
         let bytes = nodes_len(nodes.as_slice());
         Ok(Store {
             alloc,
@@ -128,6 +151,7 @@ impl Store {
         ensures bytes { self.new.bytes ≡ nodes_bytes self.new.nodes.items }
         ensures tree { OnOk result (from_sorted {R = path_cmp} self.new.nodes.items ≡ set (from_sorted {R = path_cmp} self.old.nodes.items) path.now payload.now) }
         ensures version { IfOk result (λ v. v ≡ pv_of (get (from_sorted {R = path_cmp} self.new.nodes.items) path.now)) }
+        ensures part { IsPartOf (from_sorted {R = path_cmp} self.old.nodes.items) (set (from_sorted {R = path_cmp} self.old.nodes.items) path.now payload.now) (from_sorted {R = path_cmp} self.new.nodes.items) }
     {
         let gone = node_len(&self.nodes[at]);
         let version = write_entry(&mut self.nodes[at], payload)?;
@@ -143,6 +167,7 @@ impl Store {
         ensures kept { IsKept self.new.nodes.items self.new.kids.items }
         ensures bytes { self.new.bytes ≡ nodes_bytes self.new.nodes.items }
         ensures tree { OnOk result (from_sorted {R = path_cmp} self.new.nodes.items ≡ given_watches (from_sorted {R = path_cmp} self.old.nodes.items) path.now watches.now (get (from_sorted {R = path_cmp} self.old.nodes.items) path.now)) }
+        ensures same { OnErr result (self.new.nodes.items ≡ self.old.nodes.items) }
     {
         let Some(at) = place(self.nodes.as_slice(), path) else {
             unreachable!()

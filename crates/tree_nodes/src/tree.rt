@@ -1,8 +1,8 @@
 // The tree.
-ghost use Rattle.std.specs.Prelude.{◌≡◌, ◌+◌, IfOk, OnOk, IfSome, Some};
+ghost use Rattle.std.specs.Prelude.{◌≡◌, ◌+◌, IfOk, OnOk, IfSome, IsTrue, [], map, Some};
 ghost use Rattle.std.specs.Option.{option_copied};
-ghost use Rattle.std.specs.FinMap.{get, len};
-ghost use Rattle.khepri_terms.specs.Order.{name_cmp};
+ghost use Rattle.std.specs.FinMap.{get, is_sorted, len};
+ghost use Rattle.khepri_terms.specs.Order.{name_cmp, path_cmp};
 ghost use Rattle.khepri_terms.specs.Lengths.{capped};
 ghost use Rattle.khepri_types.specs.Conditions.{seen_at};
 ghost use Rattle.khepri_types.specs.Sizes.{bytes};
@@ -10,11 +10,12 @@ ghost use Rattle.khepri_types.specs.Tree.{IsTree, opening_tree};
 ghost use Rattle.khepri_types.specs.Views.{seen_of, node_of};
 ghost use Rattle.tree_nodes.specs.Kept.{IsShallow};
 ghost use Rattle.tree_nodes.specs.Next.{HasChild, IsNext};
+ghost use Rattle.tree_nodes.specs.Parts.{entry_of, tree_of};
 
 use crate::draft::{Changes, Draft};
 use crate::store::Store;
 use khepri_terms::{Name, Path};
-use khepri_types::NodeView;
+use khepri_types::{NodePart, NodeView};
 use std::alloc::{AllocError, Global};
 use std::marker::Model;
 use std::sync::ledger::Ledger;
@@ -27,13 +28,13 @@ pub struct Tree {
 }
 
 impl Model for Tree {
+    ghost use Rattle.std.specs.Prelude.{◌≡◌};
     ghost use Rattle.std.specs.Coded.{codes};
     ghost use Rattle.std.specs.FinMap.{from_sorted, code};
     ghost use Rattle.khepri_terms.specs.Order.{path_cmp};
     ghost use Rattle.khepri_types.specs.contracts.condition.Condition as condition;
     ghost use Rattle.khepri_types.specs.Tree.{Tree as Nodes};
     ghost use Rattle.tree_nodes.specs.Kept.{IsKept, nodes_bytes};
-    ghost use Rattle.std.specs.Prelude.{◌≡◌};
 
     ghost Value = { Nodes };
 
@@ -51,6 +52,19 @@ impl Tree {
     {
         Ok(Tree {
             store: Store::fresh(alloc)?,
+        })
+    }
+
+    /// The tree of these nodes. They come in strictly rising order of path, the root and all fronts among them, and none has more
+    /// than 32 names.
+    pub fn of(alloc: Global, nodes: &[NodePart]) -> Result<Tree, AllocError>
+        requires sorted { IsTrue (is_sorted path_cmp (map entry_of nodes.now)) }
+        requires tree { IsTree (tree_of nodes.now) }
+        requires shallow { IsShallow (tree_of nodes.now) }
+        ensures { IfOk result (λ t. t ≡ tree_of nodes.now) }
+    {
+        Ok(Tree {
+            store: Store::of(alloc, nodes)?,
         })
     }
 
@@ -98,16 +112,18 @@ impl Tree {
     pub fn draft(&self) -> Result<Draft, AllocError>
         ensures base { IfOk result (λ d. d.base ≡ self.now) }
         ensures tree { IfOk result (λ d. d.tree ≡ self.now) }
+        ensures touched { IfOk result (λ d. d.touched ≡ []) }
     {
         Draft::over(self)
     }
 
-    /// The tree becomes what the draft came to from which the changes are. The draft's tree has to equal this one.
+    /// The tree becomes what the draft came to from which the changes are.
     pub fn absorb<L: Ledger>(
         &mut self,
         changes: Changes,
         steps: &mut Steps<L>,
     ) -> Result<(), AllocError>
+        requires same { self.old ≡ changes.base }
         ensures tree { OnOk result (self.new ≡ changes.tree) }
         ensures steps { steps.new ≡ steps.old }
     {

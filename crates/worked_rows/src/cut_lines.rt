@@ -7,19 +7,23 @@ use line_io::{
 use std::alloc::{AllocError, Global};
 use std::test::Fail;
 
-// A source that gives one byte a call.
+// A source in memory; a slow one gives one byte a call.
 #[derive(Drop)]
-struct Slow {
+struct Feed {
     source: MemSource,
+    is_slow: bool,
 }
 
-impl Source for Slow {
+impl Source for Feed {
     ghost left = { λ s. Some s.source.left };
 
     ghost faults = { λ s. s.source.faults };
 
     fn take(&mut self, out: &mut [u8]) -> Result<usize, Failed> {
-        self.source.take(&mut out[..1])
+        if self.is_slow {
+            return self.source.take(&mut out[..1]);
+        }
+        self.source.take(out)
     }
 }
 
@@ -39,16 +43,31 @@ impl Sink for SlowSink {
     }
 }
 
-// What twelve calls answer: a line and LF, or a word in brackets.
-fn answers_of<S: Source>(
+// A source of these bytes, whose call of this number fails; 0 is none.
+fn source(
+    alloc: Global,
+    input: &[u8],
+    is_slow: bool,
+    failing_take: u64,
+) -> Result<Feed, AllocError> {
+    let bytes = Vec::from_slice(alloc, input)?;
+    Ok(Feed {
+        source: MemSource::new(bytes, vec![in alloc; failing_take]?),
+        is_slow,
+    })
+}
+
+// What at most so many calls answer: a line and LF, or a word in brackets.
+fn answers_of(
     alloc: Global,
     limit: usize,
     budget: u64,
-    source: &mut S,
+    calls: usize,
+    source: &mut Feed,
 ) -> Result<Vec<u8>, AllocError> {
     let mut lines = Lines::new(alloc, limit, budget)?;
     let mut all = Vec::new(alloc);
-    for _ in 0..12 {
+    for _ in 0..calls {
         match lines.next(source) {
             Ok(Next::Line(line)) => {
                 all.extend_from_slice(line.as_slice())?;
@@ -188,102 +207,118 @@ const CASES: [Case; 18] = [
     },
 ];
 
+fn is_cut(alloc: Global, case: &Case, is_slow: bool) -> Result<bool, AllocError> {
+    let mut source = source(alloc, case.input.as_bytes(), is_slow, 0)?;
+    let answers = answers_of(alloc, case.limit, case.budget, 12, &mut source)?;
+    Ok(answers.as_slice() == case.answers.as_bytes())
+}
+
+// The first case that is cut otherwise, from one piece or byte by byte.
+fn first_wrong_case(alloc: Global, is_slow: bool) -> Result<Option<usize>, AllocError> {
+    for (i, case) in CASES.iter().enumerate() {
+        if !is_cut(alloc, case, is_slow)? {
+            return Ok(Some(i));
+        }
+    }
+    Ok(None)
+}
+
 #[test]
 fn lines_are_cut_alike_in_whatever_pieces(rt: HostRuntime) -> Result<(), Fail> {
     let alloc = rt.alloc();
-    for case in &CASES {
-        let bytes = Vec::from_slice(alloc, case.input.as_bytes())?;
-        let mut source = MemSource::new(bytes, Vec::new(alloc));
-        let whole = answers_of(alloc, case.limit, case.budget, &mut source)?;
-        assert_eq!(rt; whole.as_slice(), case.answers.as_bytes(), "{}", case.input);
-        let bytes = Vec::from_slice(alloc, case.input.as_bytes())?;
-        let mut slow = Slow {
-            source: MemSource::new(bytes, Vec::new(alloc)),
-        };
-        let slowly = answers_of(alloc, case.limit, case.budget, &mut slow)?;
-        assert_eq!(rt;
-            slowly.as_slice(),
-            case.answers.as_bytes(),
-            "{} byte by byte",
-            case.input
-        );
-    }
+    assert_eq!(rt; first_wrong_case(alloc, false)?, None);
+    assert_eq!(rt; first_wrong_case(alloc, true)?, None);
     Ok(())
+}
+
+// What is answered where the first, the second and each later take fails.
+const FAULTS: [&str; 10] = [
+    "(fault)ab\n(too long)f\n(end)",
+    "(fault)ab\n(too long)f\n(end)",
+    "(fault)ab\n(too long)f\n(end)",
+    "ab\n(fault)(too long)f\n(end)",
+    "ab\n(fault)(too long)f\n(end)",
+    "ab\n(fault)(too long)f\n(end)",
+    "ab\n(fault)(too long)f\n(end)",
+    "ab\n(fault)(too long)f\n(end)",
+    "ab\n(too long)(fault)f\n(end)",
+    "ab\n(too long)(fault)f\n(end)",
+];
+
+// The first take that is told otherwise where it fails, counted from 1.
+fn first_wrong_take(alloc: Global) -> Result<Option<u64>, AllocError> {
+    let mut call: u64 = 0;
+    for answers in FAULTS {
+        call = call.saturating_add(1);
+        let mut source = source(alloc, b"ab\ncdef\nf", true, call)?;
+        let all = answers_of(alloc, 3, 99, 12, &mut source)?;
+        if all.as_slice() != answers.as_bytes() {
+            return Ok(Some(call));
+        }
+    }
+    Ok(None)
 }
 
 // Whichever take fails, the lines stay, and the fault stands where that take was made.
 #[test]
 fn each_take_fails_once(rt: HostRuntime) -> Result<(), Fail> {
-    let alloc = rt.alloc();
-    let faults = [
-        "(fault)ab\n(too long)f\n(end)",
-        "(fault)ab\n(too long)f\n(end)",
-        "(fault)ab\n(too long)f\n(end)",
-        "ab\n(fault)(too long)f\n(end)",
-        "ab\n(fault)(too long)f\n(end)",
-        "ab\n(fault)(too long)f\n(end)",
-        "ab\n(fault)(too long)f\n(end)",
-        "ab\n(fault)(too long)f\n(end)",
-        "ab\n(too long)(fault)f\n(end)",
-        "ab\n(too long)(fault)f\n(end)",
-    ];
-    for (i, answers) in faults.iter().enumerate() {
-        let call = i as u64 + 1;
-        let bytes = Vec::from_slice(alloc, b"ab\ncdef\nf")?;
-        let mut slow = Slow {
-            source: MemSource::new(bytes, vec![in alloc; call]?),
-        };
-        let all = answers_of(alloc, 3, 99, &mut slow)?;
-        assert_eq!(rt; all.as_slice(), answers.as_bytes(), "take {call}");
-    }
+    assert_eq!(rt; first_wrong_take(rt.alloc())?, None);
     Ok(())
+}
+
+// Whether a line whose put of this number fails is written up to there.
+fn is_put_before(alloc: Global, failing_put: u64, front: &[u8]) -> Result<bool, AllocError> {
+    let mut slow = SlowSink {
+        sink: MemSink::new(Vec::new(alloc), vec![in alloc; failing_put]?),
+    };
+    let is_failed = put_line(&mut slow, b"abc").is_err();
+    Ok(is_failed && slow.sink.bytes() == front)
+}
+
+// Whether a sink whose third put fails takes what is put before and after it.
+fn is_put_around(alloc: Global) -> Result<bool, AllocError> {
+    let mut sink = MemSink::new(Vec::from_slice(alloc, b">")?, vec![in alloc; 3]?);
+    let is_first = put_line(&mut sink, b"abc").is_ok();
+    let is_failed = put_all(&mut sink, b"d\ne\n").is_err();
+    let is_second = put_all(&mut sink, b"d\ne\n").is_ok();
+    let is_empty = put_line(&mut sink, b"").is_ok();
+    let is_written = sink.bytes() == b">abc\nd\ne\n\n".as_slice();
+    Ok(is_first && is_failed && is_second && is_empty && is_written)
 }
 
 #[test]
 fn each_put_fails_once(rt: HostRuntime) -> Result<(), Fail> {
     let alloc = rt.alloc();
-    let text = b"abc\n";
-    for at in 0..4 {
-        let mut slow = SlowSink {
-            sink: MemSink::new(Vec::new(alloc), vec![in alloc; at as u64 + 1]?),
-        };
-        assert!(rt; put_line(&mut slow, b"abc").is_err(), "put {at}");
-        assert_eq!(rt; slow.sink.bytes(), &text[..at], "put {at}");
-    }
-    let mut sink = MemSink::new(Vec::from_slice(alloc, b">")?, vec![in alloc; 3]?);
-    assert!(rt; put_line(&mut sink, b"abc").is_ok());
-    assert!(rt; put_all(&mut sink, b"d\ne\n").is_err());
-    assert!(rt; put_all(&mut sink, b"d\ne\n").is_ok());
-    assert!(rt; put_line(&mut sink, b"").is_ok());
-    assert_eq!(rt; sink.bytes(), b">abc\nd\ne\n\n".as_slice());
+    assert!(rt; is_put_before(alloc, 1, b"")?);
+    assert!(rt; is_put_before(alloc, 2, b"a")?);
+    assert!(rt; is_put_before(alloc, 3, b"ab")?);
+    assert!(rt; is_put_before(alloc, 4, b"abc")?);
+    assert!(rt; is_put_around(alloc)?);
     Ok(())
+}
+
+// The same line 100,000 times but for its number, and then a line of 200,000 bytes.
+fn many_lines(alloc: Global, ending: &str) -> Result<Vec<u8>, AllocError> {
+    let mut bytes = Vec::new(alloc);
+    for i in 0..100_000 {
+        let line = format!(in alloc; "@1 put /q/word {{a={i}}}{ending}")?;
+        bytes.extend_from_slice(line.as_bytes())?;
+    }
+    let long = vec![in alloc; b'x'; 200_000]?;
+    bytes.extend_from_slice(long.as_slice())?;
+    bytes.extend_from_slice(ending.as_bytes())?;
+    Ok(bytes)
 }
 
 // Many lines in pieces that end anywhere in a line, and one line over several pieces.
 #[test]
 fn many_lines_over_many_pieces(rt: HostRuntime) -> Result<(), Fail> {
     let alloc = rt.alloc();
-    let mut bytes = Vec::new(alloc);
-    for i in 0..100000 {
-        let line = format!(in alloc; "@1 put /q/word {{a={i}}}\r\n")?;
-        bytes.extend_from_slice(line.as_bytes())?;
-    }
-    let long = vec![in alloc; b'x'; 200000]?;
-    bytes.extend_from_slice(long.as_slice())?;
-    bytes.extend_from_slice(b"\r\n")?;
-    let mut source = MemSource::new(bytes, Vec::new(alloc));
-    let mut lines = Lines::new(alloc, 200000, 1 << 40)?;
-    for i in 0..100000 {
-        let line = format!(in alloc; "@1 put /q/word {{a={i}}}")?;
-        match lines.next(&mut source) {
-            Ok(Next::Line(text)) => assert_eq!(rt; text.as_slice(), line.as_bytes(), "line {i}"),
-            _ => assert!(rt; false, "line {i}"),
-        }
-    }
-    match lines.next(&mut source) {
-        Ok(Next::Line(text)) => assert_eq!(rt; text.as_slice(), long.as_slice()),
-        _ => assert!(rt; false),
-    }
-    assert!(rt; matches!(lines.next(&mut source), Ok(Next::End)));
+    let bytes = many_lines(alloc, "\r\n")?;
+    let mut source = source(alloc, bytes.as_slice(), false, 0)?;
+    let answers = answers_of(alloc, 200_000, 1 << 40, 200_000, &mut source)?;
+    let mut expected = many_lines(alloc, "\n")?;
+    expected.extend_from_slice(b"(end)")?;
+    assert!(rt; answers.as_slice() == expected.as_slice());
     Ok(())
 }

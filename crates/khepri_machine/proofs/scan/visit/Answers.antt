@@ -1,7 +1,7 @@
 use Rattle.std.proofs.Common.{◌-◌, List, [], sym, subst, arith}
 use Rattle.std.specs.Option.{option_copied}
 use Rattle.khepri_terms.specs.Terms.{NameText}
-use Rattle.khepri_types.specs.Views.{shown}
+use Rattle.khepri_types.specs.Views.{as_seen}
 use Rattle.pattern_match.specs.Masks.{AreMasks}
 use Rattle.tree_nodes.proofs.Walking.{walk-goes_on}
 use Rattle.khepri_machine.specs.Scans.{path_or_root}
@@ -34,6 +34,6 @@ returns-clause-masks g c =
     let last = path_or_root (option_copied c.args.last) in
     let q = c.next_path-path.result.now in
     let below = below_last T (option_copied c.args.last) q (c.len-names.result - 1) c.requires.tree (omega arith) c.next_path-path.ensures.next in
-    entered_next parts T last q (c.len-names.result - 1) (shown c.standing-node.result) c.climb.new.masks c.enter.new.self (omega arith) below.front c.standing-node.ensures
+    entered_next parts T last q (c.len-names.result - 1) (as_seen c.standing-node.result) c.climb.new.masks c.enter.new.self (omega arith) below.front c.standing-node.ensures
     (c.climb.ensures.masks parts T last (sym c.names_of.ensures) c.requires.behind)
     c.enter.ensures.masks

@@ -3,10 +3,20 @@ use Rattle.khepri_terms.specs.declared.fault.TextFault.{TextFault}
 use Rattle.khepri_terms.specs.declared.fault.TextFault.TheVariants.{Bad}
 use Rattle.khepri_terms.proofs.Cases.{err_is}
 use Rattle.std.proofs.lemmas.List.{length-append}
-use Rattle.std.proofs.lemmas.Result.{err_from_is_err_and}
+use Rattle.std.proofs.lemmas.Result.{IfOk-weaker, err_from_is_err_and}
 use Rattle.khepri_types.specs.ReadingConditions.{nested_at, some_asked}
 use Rattle.line_text.proofs.Parts.{nested_none, left_none, nested_step, parts_past, parts_none, parts_odd, parts_last, parts_on, parts_fail}
+use Rattle.line_text.proofs.Layers.{layer_asks}
 use Rattle.line_text.proofs.condition.+reading.Goals as goal
+
+pub read_layer-returns-clause-value : goal.read_layer-returns-clause-value
+read_layer-returns-clause-value t c =
+    IfOk-weaker c.read_asking.result _ _ (λ x e. layer_asks (nested_at c.args.nesting) c.args.left c.args.text.now c.in_default.ensures c.in_default-strip.ensures c.in_default-strip-2.ensures c.in_default-strip-3.ensures c.in_default-strip-4.ensures ∙ e)
+    c.read_asking.ensures.value
+
+pub read_layer-returns-clause-bad : goal.read_layer-returns-clause-bad
+read_layer-returns-clause-bad t c =
+    λ e. layer_asks (nested_at c.args.nesting) c.args.left c.args.text.now c.in_default.ensures c.in_default-strip.ensures c.in_default-strip-2.ensures c.in_default-strip-3.ensures c.in_default-strip-4.ensures ∙ c.read_asking.ensures.bad e
 
 pub read_nested-returns-then-nesting-eq0-clause-bad : goal.read_nested-returns-then-nesting-eq0-clause-bad
 read_nested-returns-then-nesting-eq0-clause-bad t c = λ _. nested_none c.args.nesting c.args.left c.args.text.now (omega arith)

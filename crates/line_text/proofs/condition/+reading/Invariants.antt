@@ -13,16 +13,28 @@ abbrev pub decreases-read_parts-parts : goal.decreases-read_parts-parts
 decreases-read_parts-parts l = l.left - length l.parts
 
 abbrev pub decreases-read_nested : goal.decreases-read_nested
-decreases-read_nested l = l.nesting * 4
+decreases-read_nested l = l.nesting * 8
 
 abbrev pub decreases-read_layer : goal.decreases-read_layer
-decreases-read_layer l = l.nesting * 4 + 3
+decreases-read_layer l = l.nesting * 8 + 6
+
+abbrev pub decreases-read_asking : goal.decreases-read_asking
+decreases-read_asking l = l.nesting * 8 + 5
+
+abbrev pub decreases-read_outer : goal.decreases-read_outer
+decreases-read_outer l = l.nesting * 8 + 4
+
+abbrev pub decreases-read_all_asked : goal.decreases-read_all_asked
+decreases-read_all_asked l = l.nesting * 8 + 3
+
+abbrev pub decreases-read_any_asked : goal.decreases-read_any_asked
+decreases-read_any_asked l = l.nesting * 8 + 3
 
 abbrev pub decreases-read_not_asked : goal.decreases-read_not_asked
-decreases-read_not_asked l = l.nesting * 4 + 1
+decreases-read_not_asked l = l.nesting * 8 + 1
 
 abbrev pub decreases-read_list : goal.decreases-read_list
-decreases-read_list l = l.nesting * 4 + 2
+decreases-read_list l = l.nesting * 8 + 2
 
 abbrev pub decreases-read_parts : goal.decreases-read_parts
-decreases-read_parts l = l.nesting * 4 + 1
+decreases-read_parts l = l.nesting * 8 + 1

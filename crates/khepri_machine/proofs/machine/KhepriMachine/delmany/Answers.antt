@@ -16,10 +16,10 @@ dropped-requires g c =
     let some : 0 < length parts = omega (arith, ap length c.parts.ensures.value) in
     record { below = ap (λ (ps : List (List NameText)). is_under ps []) all ∙ some_unmatched parts c.args.self.now.tree some }
 
-pub returns : goal.returns
-returns g c =
+pub returns-clause-value : goal.returns-clause-value
+returns-clause-value g c =
     let parts = c.args.pattern.now in
     let S : State = c.args.self.now in
     let all : c.as_slice.result.now ≡ matching parts S.tree = c.as_slice.ensures.value ∙ (c.in_ok-paths.ensures ∙ ap (λ (U : State). matching parts U.tree) c.self.view_is) in
     let some : 0 < length parts = omega (arith, ap length c.parts.ensures.value) in
-    subst (λ (r : Reply × State). IfOk c.dropped.result (λ o. r ≡ ended S o)) (ap (dropped S) all ∙ sym (delete_all_some S parts some)) c.dropped.ensures
+    subst (λ (r : Reply × State). IfOk c.dropped.result (λ o. r ≡ ended S o)) (ap (dropped S) all ∙ sym (delete_all_some S parts some)) c.dropped.ensures.value

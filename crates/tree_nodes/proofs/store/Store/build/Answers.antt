@@ -1,10 +1,13 @@
-use Rattle.std.proofs.Common.{◌≡◌, ◌+◌, ◌-◌, ℕ, suc, take, refl, sym, subst, ap, arith, ◌∙◌}
-use Rattle.std.specs.FinMap.{put, from_sorted}
+use Rattle.std.proofs.Common.{◌≡◌, ◌+◌, ◌-◌, ℕ, List, suc, take, refl, sym, subst, ap, arith, ◌∙◌}
+use Rattle.std.specs.FinMap.{put, from_sorted, get}
 use Rattle.khepri_terms.specs.Order.{path_cmp}
 use Rattle.khepri_types.specs.declared.node.Payload.{Payload}
-use Rattle.khepri_types.specs.Tree.{fresh, set}
+use Rattle.khepri_types.specs.declared.node.Payload.TheVariants.{Empty}
+use Rattle.khepri_types.specs.Tree.{fresh, raised_children, set}
+use Rattle.tree_nodes.proofs.Slots.{Entry}
+use Rattle.tree_nodes.proofs.Touching.{parent-put, stays-put}
 use Rattle.tree_nodes.proofs.Trees.{tree_get}
-use Rattle.tree_nodes.proofs.Ways.{Way, way-start, way-step, way-done}
+use Rattle.tree_nodes.proofs.Ways.{apart_at, Way, way-start, way-step, way-done}
 use Rattle.tree_nodes.proofs.store.Store.build.Goals as goal
 
 pub way-init : goal.way-init
@@ -19,6 +22,9 @@ way-init c =
           (omega (arith, c.len-last.ensures, c.requires.within)) m.1 c.requires.missing c.announce_child.ensures.kept m.2;
       same = refl;
       bytes = c.announce_child.ensures.bytes;
+      from = omega arith;
+      others = λ q off. stays-put es c.announce_child.new.self.nodes.items (take k p) (raised_children m.0) q c.requires.kept.sorted m.2 (off k (omega arith) (omega (arith, c.requires.within)));
+      parent = parent-put es c.announce_child.new.self.nodes.items (take k p) m.0 c.requires.kept.sorted m.1 m.2;
     }
 
 pub make-requires-clause-missing : goal.make-requires-clause-missing
@@ -38,6 +44,13 @@ way-preserved c =
           (omega (arith, c.way-test.true, c.len-last.ensures)) c.in_ok-make.ensures.kept c.in_ok-make.ensures.made;
       same = c.way.invariant.same;
       bytes = c.in_ok-make.ensures.bytes;
+      from = omega (arith, c.way.invariant.from);
+      others = λ q off. c.way.invariant.others q off
+          ∙ stays-put c.way.self.nodes.items c.make.new.self.nodes.items (take (c.way.len + 1) p) (fresh Empty) q c.way.invariant.way.kept.sorted c.in_ok-make.ensures.made
+          (off (c.way.len + 1) (omega (arith, c.way.invariant.from)) (omega (arith, c.way-test.true, c.len-last.ensures)));
+      parent = sym (stays-put c.way.self.nodes.items c.make.new.self.nodes.items (take (c.way.len + 1) p) (fresh Empty) (take c.args.above p) c.way.invariant.way.kept.sorted c.in_ok-make.ensures.made
+          (λ e. apart_at p c.args.above (c.way.len + 1) (omega (arith, c.way.invariant.from)) (omega (arith, c.way-test.true, c.len-last.ensures)) (sym e)))
+          ∙ c.way.invariant.parent;
     }
 
 pub make-requires-2-clause-missing : goal.make-requires-2-clause-missing
@@ -58,3 +71,30 @@ returns-clause-built c =
     let w' = subst (λ (m : ℕ). Way c.way.self.nodes.items c.way.self.kids.items p x m 0 whole) last w in
     way-done c.way.self.nodes.items c.make-2.new.self.nodes.items c.way.self.kids.items p x i whole w' (omega (arith, c.len-last.ensures, c.requires.within))
     (c.in_ok-make-2.ensures.made ∙ ap (λ (y : Payload). put path_cmp (take (i + 1) p) (fresh y) c.way.self.nodes.items) c.way.invariant.same)
+
+pub returns-in_err-make-clause-others : goal.returns-in_err-make-clause-others
+returns-in_err-make-clause-others c q off = c.way.invariant.others q off ∙ ap (λ (ys : List Entry). get (from_sorted {R = path_cmp} ys) q) (sym c.in_err-make.ensures.same)
+
+pub returns-in_err-make-2-clause-others : goal.returns-in_err-make-2-clause-others
+returns-in_err-make-2-clause-others c q off = c.way.invariant.others q off ∙ ap (λ (ys : List Entry). get (from_sorted {R = path_cmp} ys) q) (sym c.in_err-make-2.ensures.same)
+
+pub returns-clause-others : goal.returns-clause-others
+returns-clause-others c q off =
+    let i = c.len-last.result - 1 in
+    c.way.invariant.others q off
+    ∙ stays-put c.way.self.nodes.items c.make-2.new.self.nodes.items (take (i + 1) c.args.path.now) _ q c.way.invariant.way.kept.sorted c.in_ok-make-2.ensures.made
+    (off (i + 1) (omega (arith, c.len-last.ensures, c.requires.within)) (omega (arith, c.len-last.ensures, c.requires.within)))
+
+pub returns-in_err-make-clause-parent : goal.returns-in_err-make-clause-parent
+returns-in_err-make-clause-parent c = ap (λ (ys : List Entry). get (from_sorted {R = path_cmp} ys) (take c.args.above c.args.path.now)) c.in_err-make.ensures.same ∙ c.way.invariant.parent
+
+pub returns-in_err-make-2-clause-parent : goal.returns-in_err-make-2-clause-parent
+returns-in_err-make-2-clause-parent c = ap (λ (ys : List Entry). get (from_sorted {R = path_cmp} ys) (take c.args.above c.args.path.now)) c.in_err-make-2.ensures.same ∙ c.way.invariant.parent
+
+pub returns-clause-parent : goal.returns-clause-parent
+returns-clause-parent c =
+    let p = c.args.path.now in
+    let i = c.len-last.result - 1 in
+    sym (stays-put c.way.self.nodes.items c.make-2.new.self.nodes.items (take (i + 1) p) _ (take c.args.above p) c.way.invariant.way.kept.sorted c.in_ok-make-2.ensures.made
+    (λ e. apart_at p c.args.above (i + 1) (omega (arith, c.len-last.ensures, c.requires.within)) (omega (arith, c.len-last.ensures, c.requires.within)) (sym e)))
+    ∙ c.way.invariant.parent

@@ -1,6 +1,9 @@
-use Rattle.std.proofs.Common.{◌∙◌, List, length, ap, sym, arith}
+use Rattle.std.proofs.Common.{◌∙◌, List, length, ap, subst, sym, arith}
 use Rattle.std.specs.FinMap.{from_sorted}
 use Rattle.khepri_terms.specs.Order.{path_cmp}
+use Rattle.khepri_types.specs.Drop.{drop as drop_paths}
+use Rattle.khepri_types.specs.Tree.{Tree}
+use Rattle.tree_nodes.specs.Drafts.{Touches}
 use Rattle.tree_nodes.proofs.Slots.{Entry}
 use Rattle.tree_nodes.proofs.Trees.{tree_len}
 use Rattle.tree_nodes.proofs.Lefts.{drop_is, len-left}
@@ -9,7 +12,7 @@ use Rattle.tree_nodes.proofs.store.Store.drop_all.Goals as goal
 pub overflow_sub-result : goal.overflow_sub-result
 overflow_sub-result c =
     let es = c.args.self.now.nodes.items in
-    omega (arith, len-left c.args.paths.now es, ap (λ (ys : List Entry). length ys) c.sift.ensures.nodes, ap (λ (ys : List Entry). length ys) c.as_slice-6.ensures.value, ap (λ (ys : List Entry). length ys) c.as_slice.ensures.value, c.as_slice.ensures.len, c.len-before.ensures)
+    omega (arith, len-left c.args.paths.now es, ap (λ (ys : List Entry). length ys) c.sift.ensures.nodes, ap (λ (ys : List Entry). length ys) c.as_slice-9.ensures.value, ap (λ (ys : List Entry). length ys) c.as_slice.ensures.value, c.as_slice.ensures.len, c.len-before.ensures)
 
 pub returns-clause-tree : goal.returns-clause-tree
 returns-clause-tree c =
@@ -18,4 +21,13 @@ returns-clause-tree c =
 pub returns-clause-count : goal.returns-clause-count
 returns-clause-count c =
     let es = c.args.self.now.nodes.items in
-    omega (arith, tree_len es c.requires.kept.sorted, tree_len c.sift.new.self.nodes.items c.sift.ensures.kept.sorted, ap (λ (ys : List Entry). length ys) c.as_slice-6.ensures.value, ap (λ (ys : List Entry). length ys) c.as_slice.ensures.value, c.as_slice.ensures.len, c.len-before.ensures)
+    omega (arith, tree_len es c.requires.kept.sorted, tree_len c.sift.new.self.nodes.items c.sift.ensures.kept.sorted, ap (λ (ys : List Entry). length ys) c.as_slice-9.ensures.value, ap (λ (ys : List Entry). length ys) c.as_slice.ensures.value, c.as_slice.ensures.len, c.len-before.ensures)
+
+pub returns-clause-touches : goal.returns-clause-touches
+returns-clause-touches c =
+    let es = c.args.self.now.nodes.items in
+    let ps = c.args.paths.now in
+    let old = c.args.touched.now.keys in
+    let new = c.note_cuts.new.touched.keys in
+    let noted : Touches (from_sorted es) (drop_paths (from_sorted es) ps) old new = subst (λ (ys : List Entry). Touches (from_sorted ys) (drop_paths (from_sorted ys) ps) old new) c.as_slice-4.ensures.value c.in_ok-note_cuts.ensures.touches in
+    subst (λ (U : Tree). Touches (from_sorted es) U old new) (sym (ap (λ (ys : List Entry). from_sorted {R = path_cmp} ys) c.sift.ensures.nodes ∙ sym (drop_is ps es c.requires.kept.sorted))) noted

@@ -1,0 +1,43 @@
+-- The words of a condition in three groups, each after the one before.
+use Rattle.std.specs.Prelude.{ℕ, if◌then◌else◌, List, drop, None, codes}
+use Rattle.khepri_types.specs.declared.condition.Condition.TheVariants as c
+use Rattle.khepri_types.specs.Words.{begins}
+use Rattle.khepri_types.specs.ReadingConditions.{Reading, name_asked, is_asked, field_asked, number_asked, comparing, uniting, not_asked, list_asked}
+
+-- behind `pv(`, `cv(` and `kids(`
+abbrev pub pv_asked : ℕ → List ℕ → Reading
+pv_asked left text = comparing c.Pv left (number_asked text)
+
+abbrev pub cv_asked : ℕ → List ℕ → Reading
+cv_asked left text = comparing c.Cv left (number_asked text)
+
+abbrev pub kids_asked : ℕ → List ℕ → Reading
+kids_asked left text = comparing c.Kids left (number_asked text)
+
+-- with a reading of the conditions inside
+module _ (inner : ℕ → List ℕ → Reading) where
+  -- behind `all(` and `any(`
+  abbrev pub all_asked : ℕ → List ℕ → Reading
+  all_asked left text = uniting c.All (list_asked inner left text)
+
+  abbrev pub any_asked : ℕ → List ℕ → Reading
+  any_asked left text = uniting c.Any (list_asked inner left text)
+
+  -- one condition of conditions
+  unfoldable pub outer_at : ℕ → List ℕ → Reading
+  outer_at left text =
+      if begins (codes "not(") text then not_asked inner left (drop 4 text)
+      else (if begins (codes "all(") text then all_asked left (drop 4 text)
+      else (if begins (codes "any(") text then any_asked left (drop 4 text)
+      else None))
+
+  -- one condition that is more than a word
+  unfoldable pub asking_at : ℕ → List ℕ → Reading
+  asking_at left text =
+      if begins (codes "name(") text then name_asked left (drop 5 text)
+      else (if begins (codes "is(") text then is_asked left (drop 3 text)
+      else (if begins (codes "field(") text then field_asked left (drop 6 text)
+      else (if begins (codes "pv(") text then pv_asked left (drop 3 text)
+      else (if begins (codes "cv(") text then cv_asked left (drop 3 text)
+      else (if begins (codes "kids(") text then kids_asked left (drop 5 text)
+      else outer_at left text)))))
