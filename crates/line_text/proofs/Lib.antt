@@ -5,3 +5,4 @@ pub mod Stages
 pub mod Loops
 pub mod Layers
 pub mod Said
+pub mod Ends

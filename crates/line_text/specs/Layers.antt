@@ -1,8 +1,12 @@
 -- The words of a condition in three groups, each after the one before.
-use Rattle.std.specs.Prelude.{ℕ, if◌then◌else◌, List, drop, None, codes}
+use Rattle.std.specs.Prelude.{ℕ, if◌then◌else◌, List, drop, Some, None, codes}
+use Rattle.khepri_terms.specs.Many.{◌>>=◌}
+use Rattle.khepri_terms.specs.Terms.{NameText}
+use Rattle.khepri_terms.specs.Records.{scalar_at}
+use Rattle.khepri_types.specs.declared.compare.Compare.{Compare}
 use Rattle.khepri_types.specs.declared.condition.Condition.TheVariants as c
 use Rattle.khepri_types.specs.Words.{begins}
-use Rattle.khepri_types.specs.ReadingConditions.{Reading, name_asked, is_asked, field_asked, number_asked, comparing, uniting, not_asked, list_asked}
+use Rattle.khepri_types.specs.ReadingConditions.{Reading, after_byte, compare_at, name_asked, is_asked, field_asked, number_asked, comparing, uniting, not_asked, list_asked}
 
 -- behind `pv(`, `cv(` and `kids(`
 abbrev pub pv_asked : ℕ → List ℕ → Reading
@@ -13,6 +17,20 @@ cv_asked left text = comparing c.Cv left (number_asked text)
 
 abbrev pub kids_asked : ℕ → List ℕ → Reading
 kids_asked left text = comparing c.Kids left (number_asked text)
+
+-- behind `field(KEY,OP,`
+unfoldable pub field_value : ℕ → NameText → Compare → List ℕ → Reading
+field_value left key op text = do
+  value ← scalar_at text
+  rest ← after_byte 41 value.1
+  Some (c.Field key op value.0, left, rest)
+
+-- behind `field(KEY,`
+unfoldable pub field_op : ℕ → NameText → List ℕ → Reading
+field_op left key text = do
+  op ← compare_at text
+  digits ← after_byte 44 op.1
+  field_value left key op.0 digits
 
 -- with a reading of the conditions inside
 module _ (inner : ℕ → List ℕ → Reading) where

@@ -5,7 +5,7 @@ ghost use Rattle.khepri_terms.specs.Records.{scalar_text, rec_text};
 ghost use Rattle.khepri_types.specs.Compares.{compare_text};
 ghost use Rattle.khepri_types.specs.ConditionTexts.{asked_text, number_text};
 ghost use Rattle.khepri_types.specs.Globs.{glob_text};
-ghost use Rattle.line_text.specs.Layers.{pv_asked, cv_asked, kids_asked};
+ghost use Rattle.line_text.specs.Layers.{field_op, field_value, pv_asked, cv_asked, kids_asked};
 ghost use Rattle.khepri_types.specs.ReadingConditions.{after_byte, compare_at, key_at, name_asked, is_asked, field_asked, number_asked};
 
 use crate::glob::{append_glob, read_glob};
@@ -76,7 +76,6 @@ fn read_compare(text: &[u8]) -> Result<(Compare, &[u8]), TextFault>
 }
 
 /// Appends `name(GLOB)`.
-#[tactic(auto, using(khepri_terms::proofs::Printing::front_then))]
 pub(crate) fn append_name_asked(glob: &Glob, out: &mut Vec<u8>) -> Result<(), AllocError>
     ensures ok { OnOk result (out.new.items ≡ out.old.items ++ asked_text (codes "name") (glob_text glob.now)) }
     ensures front { take (length out.old.items) out.new.items ≡ out.old.items }
@@ -87,7 +86,6 @@ pub(crate) fn append_name_asked(glob: &Glob, out: &mut Vec<u8>) -> Result<(), Al
 }
 
 /// Appends `is(REC)`.
-#[tactic(auto, using(khepri_terms::proofs::Printing::front_then))]
 pub(crate) fn append_is_asked(rec: &Rec, out: &mut Vec<u8>) -> Result<(), AllocError>
     ensures ok { OnOk result (out.new.items ≡ out.old.items ++ asked_text (codes "is") (rec_text rec.now)) }
     ensures front { take (length out.old.items) out.new.items ≡ out.old.items }
@@ -98,7 +96,6 @@ pub(crate) fn append_is_asked(rec: &Rec, out: &mut Vec<u8>) -> Result<(), AllocE
 }
 
 /// Appends `field(KEY,OP,SCALAR)`.
-#[tactic(auto, using(khepri_terms::proofs::Printing::front_then))]
 pub(crate) fn append_field_asked(
     key: &Name,
     op: Compare,
@@ -113,7 +110,6 @@ pub(crate) fn append_field_asked(
 }
 
 // Appends `field(KEY,`.
-#[tactic(auto, using(khepri_terms::proofs::Printing::front_then))]
 fn append_key(key: &Name, out: &mut Vec<u8>) -> Result<(), AllocError>
     ensures ok { OnOk result (out.new.items ≡ out.old.items ++ (codes "field(" ++ (comp_text key.now ++ 44 ∷ []))) }
     ensures front { take (length out.old.items) out.new.items ≡ out.old.items }
@@ -124,7 +120,6 @@ fn append_key(key: &Name, out: &mut Vec<u8>) -> Result<(), AllocError>
 }
 
 // Appends `OP,SCALAR)`.
-#[tactic(auto, using(khepri_terms::proofs::Printing::front_then))]
 fn append_value(op: Compare, value: &Scalar, out: &mut Vec<u8>) -> Result<(), AllocError>
     ensures ok { OnOk result (out.new.items ≡ out.old.items ++ (compare_text op ++ (44 ∷ (scalar_text value.now ++ 41 ∷ [])))) }
     ensures front { take (length out.old.items) out.new.items ≡ out.old.items }
@@ -135,7 +130,6 @@ fn append_value(op: Compare, value: &Scalar, out: &mut Vec<u8>) -> Result<(), Al
 }
 
 // Appends `OP,`.
-#[tactic(auto, using(khepri_terms::proofs::Printing::front_then))]
 fn append_op(op: Compare, out: &mut Vec<u8>) -> Result<(), AllocError>
     ensures ok { OnOk result (out.new.items ≡ out.old.items ++ (compare_text op ++ 44 ∷ [])) }
     ensures front { take (length out.old.items) out.new.items ≡ out.old.items }
@@ -145,7 +139,6 @@ fn append_op(op: Compare, out: &mut Vec<u8>) -> Result<(), AllocError>
 }
 
 /// Appends a word that ends in `(`, and `OP,NUM)`.
-#[tactic(auto, using(khepri_terms::proofs::Printing::front_then))]
 pub(crate) fn append_number_asked(
     word: &[u8],
     op: Compare,
@@ -161,7 +154,6 @@ pub(crate) fn append_number_asked(
 }
 
 // Appends `OP,NUM`.
-#[tactic(auto, using(khepri_terms::proofs::Printing::front_then))]
 fn append_comparison(op: Compare, number: u64, out: &mut Vec<u8>) -> Result<(), AllocError>
     ensures ok { OnOk result (out.new.items ≡ out.old.items ++ number_text op number) }
     ensures front { take (length out.old.items) out.new.items ≡ out.old.items }
@@ -225,9 +217,38 @@ pub(crate) fn read_field_asked(
 {
     let (key, rest) = read_key(alloc, text)?;
     let rest = read_mark(rest, b',')?;
-    let (op, rest) = read_compare(rest)?;
+    read_field_op(alloc, left, key, rest)
+}
+
+// Behind `field(KEY,`.
+#[tactic(auto, unfolding(crate::specs::Layers::field_op))]
+fn read_field_op(
+    alloc: Global,
+    left: usize,
+    key: Name,
+    text: &[u8],
+) -> Result<(Condition, usize, &[u8]), TextFault>
+    ensures value { IfOk result (λ x. field_op left key text.now ≡ Some (x.0, x.1, x.2.now)) }
+    ensures bad { result ≡ Err TextFault.Bad → field_op left key text.now ≡ None }
+{
+    let (op, rest) = read_compare(text)?;
     let rest = read_mark(rest, b',')?;
-    let (value, rest) = Scalar::read(alloc, rest)?;
+    read_field_value(alloc, left, key, op, rest)
+}
+
+// Behind `field(KEY,OP,`.
+#[tactic(auto, unfolding(crate::specs::Layers::field_value))]
+fn read_field_value(
+    alloc: Global,
+    left: usize,
+    key: Name,
+    op: Compare,
+    text: &[u8],
+) -> Result<(Condition, usize, &[u8]), TextFault>
+    ensures value { IfOk result (λ x. field_value left key op text.now ≡ Some (x.0, x.1, x.2.now)) }
+    ensures bad { result ≡ Err TextFault.Bad → field_value left key op text.now ≡ None }
+{
+    let (value, rest) = Scalar::read(alloc, text)?;
     let rest = read_mark(rest, b')')?;
     Ok((Condition::Field { key, op, value }, left, rest))
 }

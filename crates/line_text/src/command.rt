@@ -5,7 +5,7 @@ ghost use Rattle.khepri_terms.specs.Paths.{path_text};
 ghost use Rattle.khepri_types.specs.ConditionTexts.{condition_text};
 ghost use Rattle.khepri_types.specs.PatternTexts.{pattern_text};
 ghost use Rattle.khepri_types.specs.Texts.{payload_text, watching_text, assigned_text, command_text};
-ghost use Rattle.line_text.specs.Commands.{second_command};
+ghost use Rattle.line_text.specs.Commands.{cas_set, second_command};
 ghost use Rattle.line_text.specs.Grammar.{SpellsCommand, IsNoCommand};
 ghost use Rattle.khepri_types.specs.Reading.{spelled_path, Assigned, spelled_assigned, spelled_cas, spelled_pattern, spelled_limit, spelled_many, spelled_command};
 
@@ -71,7 +71,6 @@ pub(crate) fn append_command(cmd: &Command, out: &mut Vec<u8>) -> Result<(), All
 }
 
 // Appends `cas PATH COND`, a space, a payload, and what is said of watches.
-#[tactic(auto, using(khepri_terms::proofs::Printing::front_then))]
 fn append_cas(
     path: &Path,
     cond: &Condition,
@@ -88,7 +87,6 @@ fn append_cas(
 }
 
 // Appends `many PATTERN C`.
-#[tactic(auto, using(khepri_terms::proofs::Printing::front_then))]
 fn append_many(pattern: &Pattern, limit: u64, out: &mut Vec<u8>) -> Result<(), AllocError>
     ensures ok { OnOk result (out.new.items ≡ out.old.items ++ (codes "many " ++ pattern_text pattern.now ++ 32 ∷ decimal limit)) }
     ensures front { take (length out.old.items) out.new.items ≡ out.old.items }
@@ -108,7 +106,6 @@ pub(crate) fn append_path(word: &[u8], path: &Path, out: &mut Vec<u8>) -> Result
 }
 
 // Appends a word and a pattern.
-#[tactic(auto, using(khepri_terms::proofs::Printing::front_then))]
 fn append_scan(word: &[u8], pattern: &Pattern, out: &mut Vec<u8>) -> Result<(), AllocError>
     ensures ok { OnOk result (out.new.items ≡ out.old.items ++ (word.now ++ pattern_text pattern.now)) }
     ensures front { take (length out.old.items) out.new.items ≡ out.old.items }
@@ -118,7 +115,6 @@ fn append_scan(word: &[u8], pattern: &Pattern, out: &mut Vec<u8>) -> Result<(), 
 }
 
 // Appends a space, a payload, and what is said of watches.
-#[tactic(auto, using(khepri_terms::proofs::Printing::front_then))]
 fn append_set(payload: &Payload, watch: &Watching, out: &mut Vec<u8>) -> Result<(), AllocError>
     ensures ok { OnOk result (out.new.items ≡ out.old.items ++ (32 ∷ (payload_text payload.now ++ watching_text watch.now))) }
     ensures front { take (length out.old.items) out.new.items ≡ out.old.items }
@@ -129,7 +125,7 @@ fn append_set(payload: &Payload, watch: &Watching, out: &mut Vec<u8>) -> Result<
 }
 
 // Appends a word, a path, a payload, and what is said of watches.
-#[tactic(auto, unfolding(khepri_types::specs::Texts::assigned_text), using(khepri_terms::proofs::Printing::front_then))]
+#[tactic(auto, unfolding(khepri_types::specs::Texts::assigned_text))]
 fn append_assigned(
     word: &[u8],
     path: &Path,
@@ -192,7 +188,21 @@ fn read_cas(alloc: Global, text: &[u8]) -> Result<Command, TextFault>
     let (path, rest) = Path::read(alloc, text)?;
     let rest = read_mark(rest, b' ')?;
     let (cond, rest) = match_condition(alloc, rest)?;
-    let rest = read_mark(rest, b' ')?;
+    read_cas_set(alloc, path, cond, rest)
+}
+
+// Behind `cas PATH COND`.
+#[tactic(auto, unfolding(crate::specs::Commands::cas_set))]
+fn read_cas_set(
+    alloc: Global,
+    path: Path,
+    cond: Condition,
+    text: &[u8],
+) -> Result<Command, TextFault>
+    ensures value { IfOk result (λ x. cas_set path cond text.now ≡ Some x) }
+    ensures bad { result ≡ Err TextFault.Bad → cas_set path cond text.now ≡ None }
+{
+    let rest = read_mark(text, b' ')?;
     let (payload, rest) = read_payload(alloc, rest)?;
     let watch = read_watching(alloc, rest)?;
     Ok(Command::Cas {

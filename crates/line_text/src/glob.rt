@@ -25,7 +25,6 @@ fn append_piece(piece: &GlobPiece, out: &mut Vec<u8>) -> Result<(), AllocError>
 }
 
 // Appends the pieces one after another.
-#[tactic(auto, using(khepri_terms::proofs::Printing::front_then))]
 fn append_pieces(pieces: &[GlobPiece], out: &mut Vec<u8>) -> Result<(), AllocError>
     ensures ok { OnOk result (out.new.items ≡ out.old.items ++ flat_map piece_text pieces.now) }
     ensures front { take (length out.old.items) out.new.items ≡ out.old.items }

@@ -55,7 +55,6 @@ fn append_out(line: &OutLine, out: &mut Vec<u8>) -> Result<(), AllocError>
 }
 
 // Appends `# N @L ` and what stands there.
-#[tactic(auto, using(khepri_terms::proofs::Printing::front_then))]
 fn append_entry_line(
     n: u64,
     line: u64,
@@ -71,7 +70,6 @@ fn append_entry_line(
 }
 
 // Appends `= L N ` and the reply.
-#[tactic(auto, using(khepri_terms::proofs::Printing::front_then))]
 fn append_reply_line(line: u64, n: u64, reply: &Reply, out: &mut Vec<u8>) -> Result<(), AllocError>
     ensures ok { OnOk result (out.new.items ≡ out.old.items ++ (codes "= " ++ decimal line ++ 32 ∷ decimal n ++ 32 ∷ reply_text reply.now)) }
     ensures front { take (length out.old.items) out.new.items ≡ out.old.items }
@@ -81,7 +79,6 @@ fn append_reply_line(line: u64, n: u64, reply: &Reply, out: &mut Vec<u8>) -> Res
 }
 
 // Appends a word, a number, and what is behind it.
-#[tactic(auto, using(khepri_terms::proofs::Printing::front_then))]
 fn append_numbered(
     word: &[u8],
     number: u64,
@@ -96,7 +93,6 @@ fn append_numbered(
 }
 
 // Appends `* L N ` and the rows.
-#[tactic(auto, using(khepri_terms::proofs::Printing::front_then))]
 fn append_read(line: u64, n: u64, rows: Rows, out: &mut Vec<u8>) -> Result<(), AllocError>
     ensures ok { OnOk result (out.new.items ≡ out.old.items ++ (codes "* " ++ decimal line ++ 32 ∷ decimal n ++ 32 ∷ rows_text rows)) }
     ensures front { take (length out.old.items) out.new.items ≡ out.old.items }
@@ -106,7 +102,6 @@ fn append_read(line: u64, n: u64, rows: Rows, out: &mut Vec<u8>) -> Result<(), A
 }
 
 // Appends a space and the spelling of a reply.
-#[tactic(auto, using(khepri_terms::proofs::Printing::front_then))]
 fn append_answer(reply: &Reply, out: &mut Vec<u8>) -> Result<(), AllocError>
     ensures ok { OnOk result (out.new.items ≡ out.old.items ++ 32 ∷ reply_text reply.now) }
     ensures front { take (length out.old.items) out.new.items ≡ out.old.items }

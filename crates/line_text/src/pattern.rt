@@ -48,7 +48,6 @@ fn append_parts(parts: &[PatternPart], out: &mut Vec<u8>) -> Result<(), AllocErr
 }
 
 // Appends each part behind a slash.
-#[tactic(auto, using(khepri_terms::proofs::Printing::front_then))]
 fn append_stages(parts: &[PatternPart], out: &mut Vec<u8>) -> Result<(), AllocError>
     ensures ok { OnOk result (out.new.items ≡ out.old.items ++ flat_map stage_text parts.now) }
     ensures front { take (length out.old.items) out.new.items ≡ out.old.items }
@@ -60,7 +59,6 @@ fn append_stages(parts: &[PatternPart], out: &mut Vec<u8>) -> Result<(), AllocEr
 }
 
 // Appends a slash and a part.
-#[tactic(auto, using(khepri_terms::proofs::Printing::front_then))]
 fn append_stage(part: &PatternPart, out: &mut Vec<u8>) -> Result<(), AllocError>
     ensures ok { OnOk result (out.new.items ≡ out.old.items ++ stage_text part.now) }
     ensures front { take (length out.old.items) out.new.items ≡ out.old.items }
@@ -83,7 +81,6 @@ fn append_part(part: &PatternPart, out: &mut Vec<u8>) -> Result<(), AllocError>
 }
 
 // Appends `[COND]`.
-#[tactic(auto, using(khepri_terms::proofs::Printing::front_then))]
 fn append_meets(cond: &Condition, out: &mut Vec<u8>) -> Result<(), AllocError>
     ensures ok { OnOk result (out.new.items ≡ out.old.items ++ 91 ∷ (condition_text cond.now ++ 93 ∷ [])) }
     ensures front { take (length out.old.items) out.new.items ≡ out.old.items }

@@ -54,7 +54,6 @@ pub(crate) fn append_reply(reply: &Reply, out: &mut Vec<u8>) -> Result<(), Alloc
 }
 
 // Appends `nodes M`, and the nodes one after another.
-#[tactic(auto, using(khepri_terms::proofs::Printing::front_then))]
 fn append_nodes(count: u64, nodes: &ShownNodes, out: &mut Vec<u8>) -> Result<(), AllocError>
     ensures ok { OnOk result (out.new.items ≡ out.old.items ++ (codes "nodes " ++ decimal count ++ flat_map shown_text nodes.now)) }
     ensures front { take (length out.old.items) out.new.items ≡ out.old.items }

@@ -5,6 +5,7 @@ ghost use Rattle.std.specs.Fmt.{decimal};
 ghost use Rattle.khepri_terms.specs.Many.{many};
 ghost use Rattle.khepri_types.specs.Texts.{payload_text, shown_text};
 ghost use Rattle.khepri_types.specs.ReadingOut.{shown_at, nodes_at};
+ghost use Rattle.line_text.specs.Commands.{shown_content};
 
 use crate::atom::read_mark;
 use crate::payload::{append_payload, read_payload};
@@ -16,7 +17,6 @@ use khepri_types::{Payload, Reply, ShownNode, ShownNodes};
 use std::alloc::{AllocError, Global};
 
 /// Appends the nodes one after another.
-#[tactic(auto, using(khepri_terms::proofs::Printing::front_then))]
 pub(crate) fn append_shown_nodes(nodes: &[ShownNode], out: &mut Vec<u8>) -> Result<(), AllocError>
     ensures ok { OnOk result (out.new.items ≡ out.old.items ++ flat_map shown_text nodes.now) }
     ensures front { take (length out.old.items) out.new.items ≡ out.old.items }
@@ -28,7 +28,7 @@ pub(crate) fn append_shown_nodes(nodes: &[ShownNode], out: &mut Vec<u8>) -> Resu
 }
 
 // Appends ` PATH PV CV KIDS PAYLOAD`.
-#[tactic(auto, unfolding(khepri_types::specs::Texts::shown_text), using(khepri_terms::proofs::Printing::front_then))]
+#[tactic(auto, unfolding(khepri_types::specs::Texts::shown_text))]
 fn append_shown(node: &ShownNode, out: &mut Vec<u8>) -> Result<(), AllocError>
     ensures ok { OnOk result (out.new.items ≡ out.old.items ++ shown_text node.now) }
     ensures front { take (length out.old.items) out.new.items ≡ out.old.items }
@@ -39,7 +39,6 @@ fn append_shown(node: &ShownNode, out: &mut Vec<u8>) -> Result<(), AllocError>
 }
 
 /// Appends a word, three numbers and a payload.
-#[tactic(auto, using(khepri_terms::proofs::Printing::front_then))]
 pub(crate) fn append_content(
     word: &[u8],
     pv: u64,
@@ -57,7 +56,6 @@ pub(crate) fn append_content(
 }
 
 // Appends a word and three numbers.
-#[tactic(auto, using(khepri_terms::proofs::Printing::front_then))]
 fn append_three(
     word: &[u8],
     pv: u64,
@@ -121,7 +119,16 @@ fn read_shown(alloc: Global, text: &[u8]) -> Result<(ShownNode, &[u8]), TextFaul
     let rest = read_mark(text, b' ')?;
     let (path, rest) = Path::read(alloc, rest)?;
     let rest = read_mark(rest, b' ')?;
-    let Some((pv, rest)) = read_number_before(rest, b" ") else {
+    read_content(alloc, path, rest)
+}
+
+// The numbers and the payload behind the path of a node, and what is after them.
+#[tactic(auto, unfolding(crate::specs::Commands::shown_content))]
+fn read_content(alloc: Global, path: Path, text: &[u8]) -> Result<(ShownNode, &[u8]), TextFault>
+    ensures value { IfOk result (λ x. shown_content path text.now ≡ Some (x.0, x.1.now)) }
+    ensures bad { result ≡ Err TextFault.Bad → shown_content path text.now ≡ None }
+{
+    let Some((pv, rest)) = read_number_before(text, b" ") else {
         return Err(TextFault::Bad);
     };
     let Some((cv, rest)) = read_number_before(rest, b" ") else {

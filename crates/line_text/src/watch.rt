@@ -29,7 +29,6 @@ pub(crate) fn append_watching(watch: &Watching, out: &mut Vec<u8>) -> Result<(),
 }
 
 // Appends the watches one after another.
-#[tactic(auto, using(khepri_terms::proofs::Printing::front_then))]
 fn append_watches(watches: &[Watch], out: &mut Vec<u8>) -> Result<(), AllocError>
     ensures ok { OnOk result (out.new.items ≡ out.old.items ++ flat_map watch_text watches.now) }
     ensures front { take (length out.old.items) out.new.items ≡ out.old.items }
@@ -41,7 +40,7 @@ fn append_watches(watches: &[Watch], out: &mut Vec<u8>) -> Result<(), AllocError
 }
 
 // Appends ` while PATH COND`.
-#[tactic(auto, unfolding(khepri_types::specs::Texts::watch_text), using(khepri_terms::proofs::Printing::front_then))]
+#[tactic(auto, unfolding(khepri_types::specs::Texts::watch_text))]
 fn append_watch(watch: &Watch, out: &mut Vec<u8>) -> Result<(), AllocError>
     ensures ok { OnOk result (out.new.items ≡ out.old.items ++ watch_text watch.now) }
     ensures front { take (length out.old.items) out.new.items ≡ out.old.items }
@@ -51,7 +50,6 @@ fn append_watch(watch: &Watch, out: &mut Vec<u8>) -> Result<(), AllocError>
 }
 
 /// Appends `PATH COND`.
-#[tactic(auto, using(khepri_terms::proofs::Printing::front_then))]
 pub(crate) fn append_asked(
     path: &Path,
     cond: &Condition,

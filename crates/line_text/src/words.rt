@@ -18,7 +18,6 @@ pub(crate) fn append_word(word: &[u8], out: &mut Vec<u8>) -> Result<(), AllocErr
 }
 
 /// Appends a word and a number in decimal behind it.
-#[tactic(auto, using(khepri_terms::proofs::Printing::front_then))]
 pub(crate) fn append_number(word: &[u8], number: u64, out: &mut Vec<u8>) -> Result<(), AllocError>
     ensures ok { OnOk result (out.new.items ≡ out.old.items ++ (word.now ++ decimal number)) }
     ensures front { take (length out.old.items) out.new.items ≡ out.old.items }
@@ -29,7 +28,6 @@ pub(crate) fn append_number(word: &[u8], number: u64, out: &mut Vec<u8>) -> Resu
 }
 
 /// Appends two words, each with a number behind it.
-#[tactic(auto, using(khepri_terms::proofs::Printing::front_then))]
 pub(crate) fn append_numbers(
     first: &[u8],
     a: u64,

@@ -4,7 +4,7 @@ ghost use Rattle.khepri_types.specs.declared.node.Node.{Node};
 ghost use Rattle.tree_nodes.specs.Parts.{entry_of};
 
 use khepri_terms::Path;
-use khepri_types::{Node, NodePart, Watch, Watches};
+use khepri_types::{Node, NodePart, Payload, Watch, Watches};
 use std::alloc::{AllocError, Global};
 
 fn copy_watch(alloc: Global, watch: &Watch) -> Result<Watch, AllocError>
@@ -26,19 +26,33 @@ pub(crate) fn copy_watches(alloc: Global, watches: &[Watch]) -> Result<Watches, 
     Ok(Watches::from_vec(all))
 }
 
+// A node of these parts.
+fn copy_node(
+    alloc: Global,
+    payload: &Payload,
+    pv: u64,
+    cv: u64,
+    watches: &[Watch],
+) -> Result<Node, AllocError>
+    ensures { IfOk result (λ n. n ≡ record { payload = payload.now; pv = pv; cv = cv; watches = watches.now }) }
+{
+    let watches = copy_watches(alloc, watches)?;
+    let payload = payload.copy()?;
+    Ok(Node {
+        payload,
+        pv,
+        cv,
+        watches,
+    })
+}
+
 fn copy_entry(alloc: Global, entry: &(Path, Node)) -> Result<(Path, Node), AllocError>
     ensures { IfOk result (λ e. e ≡ entry.now) }
 {
     let node = &entry.1;
-    Ok((
-        entry.0.copy()?,
-        Node {
-            payload: node.payload.copy()?,
-            pv: node.pv,
-            cv: node.cv,
-            watches: copy_watches(alloc, node.watches.as_slice())?,
-        },
-    ))
+    let watches = node.watches.as_slice();
+    let copy = copy_node(alloc, &node.payload, node.pv, node.cv, watches)?;
+    Ok((entry.0.copy()?, copy))
 }
 
 pub(crate) fn copy_nodes(
@@ -57,15 +71,9 @@ pub(crate) fn copy_nodes(
 fn part_entry(alloc: Global, part: &NodePart) -> Result<(Path, Node), AllocError>
     ensures { IfOk result (λ e. e ≡ entry_of part.now) }
 {
-    Ok((
-        part.path.copy()?,
-        Node {
-            payload: part.payload.copy()?,
-            pv: part.pv,
-            cv: part.cv,
-            watches: copy_watches(alloc, part.watches.as_slice())?,
-        },
-    ))
+    let watches = part.watches.as_slice();
+    let copy = copy_node(alloc, &part.payload, part.pv, part.cv, watches)?;
+    Ok((part.path.copy()?, copy))
 }
 
 // The paths and nodes of these parts.

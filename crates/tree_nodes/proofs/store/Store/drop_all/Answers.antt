@@ -1,13 +1,51 @@
-use Rattle.std.proofs.Common.{◌∙◌, List, length, ap, subst, sym, arith}
+use Rattle.std.proofs.Common.{◌∙◌, List, length, map, ap, subst, sym, arith}
 use Rattle.std.specs.FinMap.{from_sorted}
 use Rattle.khepri_terms.specs.Order.{path_cmp}
 use Rattle.khepri_types.specs.Drop.{drop as drop_paths}
-use Rattle.khepri_types.specs.Tree.{Tree}
+use Rattle.khepri_types.specs.Paths.{is_under}
+use Rattle.khepri_types.specs.Tree.{Tree, IsTree}
+use Rattle.tree_nodes.specs.Cuts.{going}
 use Rattle.tree_nodes.specs.Drafts.{Touches}
-use Rattle.tree_nodes.proofs.Slots.{Entry}
+use Rattle.tree_nodes.specs.Kept.{children}
+use Rattle.tree_nodes.proofs.Slots.{Entry, IsSorted}
 use Rattle.tree_nodes.proofs.Trees.{tree_len}
 use Rattle.tree_nodes.proofs.Lefts.{drop_is, len-left}
 use Rattle.tree_nodes.proofs.store.Store.drop_all.Goals as goal
+
+pub leaving-requires-clause-sorted : goal.leaving-requires-clause-sorted
+leaving-requires-clause-sorted c = subst IsSorted (sym c.as_slice.ensures.value) c.requires.kept.sorted
+
+pub leaving-requires-clause-tree : goal.leaving-requires-clause-tree
+leaving-requires-clause-tree c = subst (λ (ys : List Entry). IsTree (from_sorted {R = path_cmp} ys)) (sym c.as_slice.ensures.value) c.requires.kept.tree
+
+pub losses-requires-clause-sorted : goal.losses-requires-clause-sorted
+losses-requires-clause-sorted c = subst IsSorted (sym c.as_slice-2.ensures.value) c.requires.kept.sorted
+
+pub losses-requires-clause-tree : goal.losses-requires-clause-tree
+losses-requires-clause-tree c = subst (λ (ys : List Entry). IsTree (from_sorted {R = path_cmp} ys)) (sym c.as_slice-2.ensures.value) c.requires.kept.tree
+
+pub losses-requires-clause-gone : goal.losses-requires-clause-gone
+losses-requires-clause-gone c =
+    c.as_slice-3.ensures.value ∙ (c.in_ok-gone.ensures ∙ ap (λ (ys : List Entry). map (λ (e : Entry). is_under c.args.paths.now e.0) ys) (c.as_slice.ensures.value ∙ sym c.as_slice-2.ensures.value))
+
+pub note_cuts-requires-clause-sorted : goal.note_cuts-requires-clause-sorted
+note_cuts-requires-clause-sorted c = subst IsSorted (sym c.as_slice-4.ensures.value) c.requires.kept.sorted
+
+pub note_cuts-requires-clause-gone : goal.note_cuts-requires-clause-gone
+note_cuts-requires-clause-gone c =
+    c.as_slice-5.ensures.value ∙ (c.in_ok-gone.ensures ∙ ap (λ (ys : List Entry). map (λ (e : Entry). is_under c.args.paths.now e.0) ys) (c.as_slice.ensures.value ∙ sym c.as_slice-4.ensures.value))
+
+pub note_cuts-requires-clause-lost : goal.note_cuts-requires-clause-lost
+note_cuts-requires-clause-lost c =
+    c.as_slice-6.ensures.value ∙ (c.in_ok-lost.ensures ∙ ap (λ (ys : List Entry). map (λ (e : Entry). children (going c.args.paths.now ys) e.0) ys) (c.as_slice-2.ensures.value ∙ sym c.as_slice-4.ensures.value))
+
+pub sift-requires-clause-gone : goal.sift-requires-clause-gone
+sift-requires-clause-gone c =
+    c.as_slice-7.ensures.value ∙ (c.in_ok-gone.ensures ∙ ap (λ (ys : List Entry). map (λ (e : Entry). is_under c.args.paths.now e.0) ys) c.as_slice.ensures.value)
+
+pub sift-requires-clause-lost : goal.sift-requires-clause-lost
+sift-requires-clause-lost c =
+    c.as_slice-8.ensures.value ∙ (c.in_ok-lost.ensures ∙ ap (λ (ys : List Entry). map (λ (e : Entry). children (going c.args.paths.now ys) e.0) ys) c.as_slice-2.ensures.value)
 
 pub overflow_sub-result : goal.overflow_sub-result
 overflow_sub-result c =

@@ -3,7 +3,7 @@ use Rattle.std.specs.Prelude.{IsTrue, is_some, insert}
 use Rattle.std.specs.FinMap.{find}
 use Rattle.khepri_terms.specs.Order.{path_cmp}
 use Rattle.khepri_types.specs.Tree.{fresh, raised}
-use Rattle.tree_nodes.specs.Kept.{IsKept}
+use Rattle.tree_nodes.specs.Kept.{IsKept, nodes_bytes}
 use Rattle.tree_nodes.specs.Slots.{Finds}
 use Rattle.tree_nodes.proofs.Slots.{Entry, IsSorted}
 use Rattle.tree_nodes.proofs.Trees.{sorted-put}
@@ -41,3 +41,14 @@ returns-clause-kept c =
     let made = made-kept es ks p i x at j (raised (get_or (insert ks at 0) j 0)) c.requires.kept c.requires.within c.requires.short c.requires.stands c.requires.missing few (c.in_ok-add.ensures.place (fresh x)) parent refl in
     subst (λ (ys : List Entry). IsKept ys c.count_child.new.self.kids.items) (sym nodes)
     (subst (λ (ms : List ℕ). IsKept (insert es at (q, fresh x)) ms) (sym kids) made)
+
+pub returns-in_err-add-clause-kept : goal.returns-in_err-add-clause-kept
+returns-in_err-add-clause-kept c =
+    subst (λ (ys : List Entry). IsKept ys c.add.new.self.kids.items) (sym c.in_err-add.ensures.nodes_kept)
+    (subst (λ (ms : List ℕ). IsKept c.args.self.now.nodes.items ms) (sym c.in_err-add.ensures.kids_kept) c.requires.kept)
+
+pub returns-clause-bytes : goal.returns-clause-bytes
+returns-clause-bytes c = c.count_child.ensures.bytes ∙ (c.in_ok-add.ensures.bytes ∙ ap nodes_bytes (sym c.count_child.ensures.nodes))
+
+pub returns-clause-made : goal.returns-clause-made
+returns-clause-made c = c.count_child.ensures.nodes ∙ (c.in_ok-add.ensures.nodes ∙ sym (c.in_ok-add.ensures.place (fresh c.args.payload)))

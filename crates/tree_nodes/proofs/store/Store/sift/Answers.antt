@@ -105,3 +105,15 @@ returns-clause-bytes c =
     refl
     (ap (sum_by node_bytes) (c.as_slice.ensures.value ∙ nodes) ∙ omega arith)
     ∙ ap nodes_bytes c.as_slice.ensures.value
+
+pub bounds-gone-at : goal.bounds-gone-at
+bounds-gone-at c =
+    omega (arith, ap (λ (bs : List Bool). length bs) c.requires.gone, length-map c.args.self.now.nodes.items (λ (e : Entry). is_under c.args.paths.now e.0), c.back.invariant.within, c.back-test.true)
+
+pub bounds-gone-at-in-back : goal.bounds-gone-at-in-back
+bounds-gone-at-in-back c =
+    omega (arith, ap (λ (bs : List Bool). length bs) c.requires.gone, length-map c.args.self.now.nodes.items (λ (e : Entry). is_under c.args.paths.now e.0), c.back.invariant.within, c.back-test.true)
+
+pub bounds-lost-at : goal.bounds-lost-at
+bounds-lost-at c =
+    omega (arith, ap (λ (ns : List ℕ). length ns) c.requires.lost, length-map c.args.self.now.nodes.items (λ (e : Entry). children (going c.args.paths.now c.args.self.now.nodes.items) e.0), c.back.invariant.within, c.back-test.true)
