@@ -1,4 +1,2 @@
-pub mod Statuses
 pub mod Words
-pub mod Told
-pub mod Session
+pub mod Refusing

@@ -2,12 +2,12 @@
 ghost use Rattle.std.specs.Prelude.{◌≡◌, ◌≢◌, ◌≤◌, ◌⊎◌, Some, None, OnOk};
 ghost use Rattle.line_io.specs.Streams.{Rose};
 ghost use Rattle.khepri.specs.Words.{bytes_of, work_of, usage_line};
-ghost use Rattle.khepri.specs.Session.{Session, Refuses};
+ghost use Rattle.session_core.specs.Session.{Session};
+ghost use Rattle.khepri.specs.Refusing.{Refuses};
 
-use crate::session::session;
-use crate::status::Status;
 use crate::words::{Work, work_of};
 use line_io::{Sink, Source, put_line};
+use session_core::{Status, session};
 use std::alloc::Global;
 
 /// Does what the words ask for. Words that are not known take nothing, and get the usage line.

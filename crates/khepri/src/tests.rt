@@ -4,11 +4,11 @@ mod tables;
 ghost use Rattle.std.specs.Prelude.{Some};
 
 use crate::run::run;
-use crate::status::Status;
 use line_io::{Failed, MemSink, MemSource, Sink, Source};
+use session_core::Status;
 use std::alloc::{AllocError, Global};
 use std::test::Fail;
-use tables::SESSIONS;
+use tables::{SUBJECTS, Sessions, sessions_of};
 
 // A source in memory; a slow one gives one byte a call.
 #[derive(Drop)]
@@ -136,7 +136,7 @@ fn first_other_line(written: &[u8], expected: &[u8]) -> Option<usize> {
     Some(line)
 }
 
-const OPENING: &[u8] = b"! 1 leads 1\n";
+static OPENING: &[u8] = b"! 1 leads 1\n";
 
 // The first line of a session that is not as expected behind its opening; 0 is the opening, or the status.
 fn first_wrong_line(ran: &Ran, output: &[u8]) -> Option<usize> {
@@ -146,16 +146,29 @@ fn first_wrong_line(ran: &Ran, output: &[u8]) -> Option<usize> {
     }
 }
 
-// The first session of a table that goes wrong, and the line of its output.
+// The first session that goes wrong, and the line of its output.
 fn first_wrong(
     alloc: Global,
-    table: &[(&str, &str)],
+    sessions: Sessions,
     way: Way,
 ) -> Result<Option<(usize, usize)>, AllocError> {
-    for (i, (input, output)) in table.iter().enumerate() {
-        let ran = session(alloc, input.as_bytes(), way)?;
-        if let Some(line) = first_wrong_line(&ran, output.as_bytes()) {
+    for (i, (input, output)) in sessions.iter().enumerate() {
+        let ran = session(alloc, input, way)?;
+        if let Some(line) = first_wrong_line(&ran, output) {
             return Ok(Some((i, line)));
+        }
+    }
+    Ok(None)
+}
+
+// The subject of the first session that goes wrong, its place there, and the line of its output.
+fn first_wrong_session(
+    alloc: Global,
+    way: Way,
+) -> Result<Option<(usize, usize, usize)>, AllocError> {
+    for subject in 0..SUBJECTS {
+        if let Some((i, line)) = first_wrong(alloc, sessions_of(subject), way)? {
+            return Ok(Some((subject, i, line)));
         }
     }
     Ok(None)
@@ -163,33 +176,38 @@ fn first_wrong(
 
 #[test]
 fn lines_are_answered(rt: HostRuntime) -> Result<(), Fail> {
-    let alloc = rt.alloc();
-    assert_eq!(rt; first_wrong(alloc, &SESSIONS, FAST)?, None);
-    assert_eq!(rt; first_wrong(alloc, &SESSIONS, SLOW)?, None);
+    assert_eq!(rt; first_wrong_session(rt.alloc(), FAST)?, None);
     Ok(())
 }
 
-const LINES: &[u8] =
+#[test]
+fn lines_are_answered_byte_by_byte(rt: HostRuntime) -> Result<(), Fail> {
+    assert_eq!(rt; first_wrong_session(rt.alloc(), SLOW)?, None);
+    Ok(())
+}
+
+static LINES: &[u8] =
     b"@1 put /a/b {x=1}\n@1 put /a/b {x=1}\n@1 put /a/b {x=2}\n@1 get /a\n@1 put / {x=1}\n";
 
-const ANSWERS: &[u8] = b"! 1 leads 1\n\
+static ANSWERS: &[u8] = b"! 1 leads 1\n\
     # 1 @1 put /a/b {x=1}\n= 1 1 ok 1 0\n\
     # 2 @2 put /a/b {x=1}\n= 2 2 ok 1 0\n\
     # 3 @3 put /a/b {x=2}\n= 3 3 ok 2 0\n\
     # 4 @4 get /a\n= 4 4 node 1 1 1 -\n\
     # 5 @5 put / {x=1}\n= 5 5 ok 2 0\n";
 
-// Whether the opening and the answers to so many of the lines were written.
-fn are_answered(lines: usize, written: &[u8]) -> bool {
-    let mut ends: usize = 0;
-    for byte in written {
+// The opening and the answers to so many of the lines.
+fn answers_to(lines: usize) -> &'static [u8] {
+    let mut left = lines.saturating_mul(2).saturating_add(1);
+    for (i, byte) in ANSWERS.iter().enumerate() {
+        if left == 0 {
+            return &ANSWERS[..i];
+        }
         if *byte == b'\n' {
-            ends = ends.saturating_add(1);
+            left -= 1;
         }
     }
-    ANSWERS.starts_with(written)
-        && written.ends_with(b"\n")
-        && ends == lines.saturating_mul(2).saturating_add(1)
+    ANSWERS
 }
 
 fn count_ends(bytes: &[u8]) -> usize {
@@ -202,6 +220,11 @@ fn count_ends(bytes: &[u8]) -> usize {
     ends
 }
 
+// Whether the session of the lines goes so.
+fn goes(alloc: Global, way: Way, status: Status, written: &[u8]) -> Result<bool, AllocError> {
+    Ok(session(alloc, LINES, way)?.is(status, written))
+}
+
 // Whether the lines are answered that had ended before the source failed.
 fn is_told_of_a_take(alloc: Global, failing_take: usize) -> Result<bool, AllocError> {
     let way = Way {
@@ -209,12 +232,11 @@ fn is_told_of_a_take(alloc: Global, failing_take: usize) -> Result<bool, AllocEr
         failing_take: failing_take as u64,
         failing_put: 0,
     };
-    let ran = session(alloc, LINES, way)?;
     if failing_take == 0 || failing_take > LINES.len() + 1 {
-        return Ok(ran.is(Status::Ended, ANSWERS));
+        return goes(alloc, way, Status::Ended, ANSWERS);
     }
     let lines = count_ends(&LINES[..failing_take - 1]);
-    Ok(ran.status == Status::SourceFault && are_answered(lines, ran.sink.sink.bytes()))
+    goes(alloc, way, Status::SourceFault, answers_to(lines))
 }
 
 fn first_wrong_take(alloc: Global) -> Result<Option<usize>, AllocError> {
@@ -239,11 +261,10 @@ fn is_told_of_a_byte(alloc: Global, failing_put: usize) -> Result<bool, AllocErr
         failing_take: 0,
         failing_put: failing_put as u64,
     };
-    let ran = session(alloc, LINES, way)?;
     if failing_put == 0 || failing_put > ANSWERS.len() {
-        return Ok(ran.is(Status::Ended, ANSWERS));
+        return goes(alloc, way, Status::Ended, ANSWERS);
     }
-    Ok(ran.is(Status::SinkFault, &ANSWERS[..failing_put - 1]))
+    goes(alloc, way, Status::SinkFault, &ANSWERS[..failing_put - 1])
 }
 
 fn first_wrong_byte(alloc: Global) -> Result<Option<usize>, AllocError> {
@@ -256,21 +277,19 @@ fn first_wrong_byte(alloc: Global) -> Result<Option<usize>, AllocError> {
 }
 
 // Whether just the answers were written that stood before the one that failed.
-fn is_told_of_a_put(alloc: Global, failing_put: u64) -> Result<bool, AllocError> {
+fn is_told_of_a_put(alloc: Global, failing_put: usize) -> Result<bool, AllocError> {
     let way = Way {
         is_slow: false,
         failing_take: 0,
-        failing_put,
+        failing_put: failing_put as u64,
     };
-    let ran = session(alloc, LINES, way)?;
     if failing_put < 2 {
-        return Ok(ran.is(Status::SinkFault, b""));
+        return goes(alloc, way, Status::SinkFault, b"");
     }
-    let lines = failing_put as usize - 2;
-    Ok(ran.status == Status::SinkFault && are_answered(lines, ran.sink.sink.bytes()))
+    goes(alloc, way, Status::SinkFault, answers_to(failing_put - 2))
 }
 
-fn first_wrong_put(alloc: Global) -> Result<Option<u64>, AllocError> {
+fn first_wrong_put(alloc: Global) -> Result<Option<usize>, AllocError> {
     for call in 1..=6 {
         if !is_told_of_a_put(alloc, call)? {
             return Ok(Some(call));
@@ -280,17 +299,21 @@ fn first_wrong_put(alloc: Global) -> Result<Option<u64>, AllocError> {
 }
 
 #[test]
-fn sinks_fail_at_each_call(rt: HostRuntime) -> Result<(), Fail> {
-    let alloc = rt.alloc();
-    assert_eq!(rt; first_wrong_byte(alloc)?, None);
-    assert_eq!(rt; first_wrong_put(alloc)?, None);
+fn sinks_fail_at_each_byte(rt: HostRuntime) -> Result<(), Fail> {
+    assert_eq!(rt; first_wrong_byte(rt.alloc())?, None);
     Ok(())
 }
 
-const USAGE: &[u8] =
+#[test]
+fn sinks_fail_at_each_call(rt: HostRuntime) -> Result<(), Fail> {
+    assert_eq!(rt; first_wrong_put(rt.alloc())?, None);
+    Ok(())
+}
+
+static USAGE: &[u8] =
     b"khepri: session [--nodes N] | audit | gen --lines C --seed X | serve --port P --nodes N --workers W --connections C\n";
 
-const OTHER_WORDS: [&[&str]; 6] = [
+static OTHER_WORDS: [&[&str]; 6] = [
     &[],
     &["sessio"],
     &["sessions"],
@@ -299,15 +322,27 @@ const OTHER_WORDS: [&[&str]; 6] = [
     &["session", ""],
 ];
 
+const NINTH_FAILS: Way = Way {
+    is_slow: true,
+    failing_take: 0,
+    failing_put: 9,
+};
+
+fn are_answered(
+    alloc: Global,
+    words: &[&str],
+    way: Way,
+    status: Status,
+    written: &[u8],
+) -> Result<bool, AllocError> {
+    Ok(run_of(alloc, words, LINES, way)?.is(status, written))
+}
+
 fn get_the_usage_line(alloc: Global, words: &[&str]) -> Result<bool, AllocError> {
-    let way = Way {
-        is_slow: true,
-        failing_take: 0,
-        failing_put: 9,
-    };
-    let whole = run_of(alloc, words, LINES, FAST)?;
-    let failed = run_of(alloc, words, LINES, way)?;
-    Ok(whole.is(Status::Usage, USAGE) && failed.is(Status::SinkFault, b"khepri: "))
+    if !are_answered(alloc, words, FAST, Status::Usage, USAGE)? {
+        return Ok(false);
+    }
+    are_answered(alloc, words, NINTH_FAILS, Status::SinkFault, b"khepri: ")
 }
 
 // The first of the other words that get another answer.
@@ -326,33 +361,37 @@ fn other_words_get_the_usage_line(rt: HostRuntime) -> Result<(), Fail> {
     Ok(())
 }
 
-// Lines of so many bytes, with their ends, and why each is refused.
-const LONG_LINES: [(usize, &str, &str); 7] = [
-    (16_384, "\n", "badline"),
-    (16_384, "\r\n", "badline"),
-    (16_384, "", "badline"),
-    (16_385, "\n", "toolong"),
-    (16_385, "\r\n", "toolong"),
-    (16_385, "", "toolong"),
-    (200_000, "\n", "toolong"),
+// Lines of so many bytes, with their ends, and the answer to each.
+static LONG_LINES: [(usize, &str, &str); 7] = [
+    (16_384, "\n", "! 1 leads 1\n- 1 badline\n"),
+    (16_384, "\r\n", "! 1 leads 1\n- 1 badline\n"),
+    (16_384, "", "! 1 leads 1\n- 1 badline\n"),
+    (16_385, "\n", "! 1 leads 1\n- 1 toolong\n"),
+    (16_385, "\r\n", "! 1 leads 1\n- 1 toolong\n"),
+    (16_385, "", "! 1 leads 1\n- 1 toolong\n"),
+    (200_000, "\n", "! 1 leads 1\n- 1 toolong\n"),
 ];
+
+fn long_line(alloc: Global, length: usize, ending: &str) -> Result<Vec<u8>, AllocError> {
+    let mut line = vec![in alloc; b'x'; length]?;
+    line.extend_from_slice(ending.as_bytes())?;
+    Ok(line)
+}
 
 fn is_refused(
     alloc: Global,
     length: usize,
     ending: &str,
-    reason: &str,
+    answer: &str,
 ) -> Result<bool, AllocError> {
-    let mut input = vec![in alloc; b'x'; length]?;
-    input.extend_from_slice(ending.as_bytes())?;
-    let answer = format!(in alloc; "! 1 leads 1\n- 1 {reason}\n")?;
-    Ok(session(alloc, input.as_slice(), FAST)?.is(Status::Ended, answer.as_bytes()))
+    let line = long_line(alloc, length, ending)?;
+    Ok(session(alloc, line.as_slice(), FAST)?.is(Status::Ended, answer.as_bytes()))
 }
 
 // The first of the long lines that gets another answer.
 fn first_wrong_length(alloc: Global) -> Result<Option<usize>, AllocError> {
-    for (i, (length, ending, reason)) in LONG_LINES.iter().enumerate() {
-        if !is_refused(alloc, *length, ending, reason)? {
+    for (i, (length, ending, answer)) in LONG_LINES.iter().enumerate() {
+        if !is_refused(alloc, *length, ending, answer)? {
             return Ok(Some(i));
         }
     }
@@ -373,44 +412,48 @@ struct Script {
     lines: usize,
 }
 
-// Adds a command and its reply.
-fn ask(alloc: Global, script: &mut Script, cmd: &[u8], reply: &str) -> Result<(), AllocError> {
-    let n = script.lines.saturating_add(1);
-    let head = format!(in alloc; "# {n} @{n} ")?;
-    let tail = format!(in alloc; "\n= {n} {n} {reply}\n")?;
-    script.input.extend_from_slice(b"@1 ")?;
-    script.input.extend_from_slice(cmd)?;
-    script.input.push(b'\n')?;
-    script.output.extend_from_slice(head.as_bytes())?;
-    script.output.extend_from_slice(cmd)?;
-    script.output.extend_from_slice(tail.as_bytes())?;
-    script.lines = n;
+fn push_all(out: &mut Vec<u8>, pieces: &[&[u8]]) -> Result<(), AllocError> {
+    for piece in pieces {
+        out.extend_from_slice(piece)?;
+    }
     Ok(())
 }
 
-// Appends the record of one field that has as many bytes, and what comes behind it.
+// Adds a command and its reply.
+fn ask(alloc: Global, script: &mut Script, cmd: &[u8], reply: &str) -> Result<(), AllocError> {
+    let n = script.lines.saturating_add(1);
+    script.lines = n;
+    push_all(&mut script.input, &[b"@1 ", cmd, b"\n"])?;
+    let head = format!(in alloc; "# {n} @{n} ")?;
+    let tail = format!(in alloc; "\n= {n} {n} {reply}\n")?;
+    push_all(&mut script.output, &[head.as_bytes(), cmd, tail.as_bytes()])
+}
+
+// Appends what stands before, the record of one field that has as many bytes, and what comes behind it.
 fn push_record(
     alloc: Global,
     text: &mut Vec<u8>,
+    front: &[u8],
     bytes: usize,
-    rest: &str,
+    rest: &[u8],
 ) -> Result<(), AllocError> {
     let letters = vec![in alloc; b'a'; bytes.saturating_sub(5)]?;
-    text.extend_from_slice(b"{k='")?;
-    text.extend_from_slice(letters.as_slice())?;
-    text.push(b'}')?;
-    text.extend_from_slice(rest.as_bytes())?;
-    Ok(())
+    push_all(text, &[front, b"{k='", letters.as_slice(), b"}", rest])
+}
+
+// Appends watches, of which the last has a record of so many bytes.
+fn push_watches(alloc: Global, cmd: &mut Vec<u8>, last: usize) -> Result<(), AllocError> {
+    push_record(alloc, cmd, b" while / not(is(", 4_070, b"))")?;
+    push_record(alloc, cmd, b" while / not(is(", 4_070, b"))")?;
+    push_record(alloc, cmd, b" while / not(is(", last, b"))")
 }
 
 // A put of a node of 12,270 bytes and of those of the record in its last watch.
 fn large_put(alloc: Global, name: usize, last: usize) -> Result<Vec<u8>, AllocError> {
     let head = format!(in alloc; "put /{name} ")?;
-    let mut cmd = Vec::from_slice(alloc, head.as_bytes())?;
-    push_record(alloc, &mut cmd, 4_096, " while / not(is(")?;
-    push_record(alloc, &mut cmd, 4_070, ")) while / not(is(")?;
-    push_record(alloc, &mut cmd, 4_070, ")) while / not(is(")?;
-    push_record(alloc, &mut cmd, last, "))")?;
+    let mut cmd = Vec::new(alloc);
+    push_record(alloc, &mut cmd, head.as_bytes(), 4_096, b"")?;
+    push_watches(alloc, &mut cmd, last)?;
     Ok(cmd)
 }
 
@@ -425,6 +468,12 @@ fn ask_for_large(
     ask(alloc, script, cmd.as_slice(), reply)
 }
 
+// The first line of a script that is answered otherwise.
+fn first_wrong_reply(alloc: Global, script: &Script) -> Result<Option<usize>, AllocError> {
+    let ran = session(alloc, script.input.as_slice(), FAST)?;
+    Ok(first_wrong_line(&ran, script.output.as_slice()))
+}
+
 // Adds 1,026 nodes of 16,340 bytes, and one that leaves no byte beside the root's one.
 fn fill(alloc: Global, script: &mut Script) -> Result<(), AllocError> {
     for name in 1_000..2_026 {
@@ -436,16 +485,19 @@ fn fill(alloc: Global, script: &mut Script) -> Result<(), AllocError> {
     ask(alloc, script, b"put / {}", "no full")
 }
 
-#[test]
-fn a_full_tree_takes_no_more(rt: HostRuntime) -> Result<(), Fail> {
-    let alloc = rt.alloc();
+// The first line that a full tree answers otherwise.
+fn first_wrong_of_a_full_tree(alloc: Global) -> Result<Option<usize>, AllocError> {
     let mut script = Script {
         input: Vec::new(alloc),
         output: Vec::new(alloc),
         lines: 0,
     };
     fill(alloc, &mut script)?;
-    let ran = session(alloc, script.input.as_slice(), FAST)?;
-    assert_eq!(rt; first_wrong_line(&ran, script.output.as_slice()), None);
+    first_wrong_reply(alloc, &script)
+}
+
+#[test]
+fn a_full_tree_takes_no_more(rt: HostRuntime) -> Result<(), Fail> {
+    assert_eq!(rt; first_wrong_of_a_full_tree(rt.alloc())?, None);
     Ok(())
 }

@@ -7,7 +7,7 @@ use std::env::{self, Env};
 use std::io::ErrorKind;
 
 /// What a command line asks for.
-#[derive(Clone, Copy, Debug, PartialEq, Eq)]
+#[derive(Clone, Copy)]
 pub enum Work {
     /// To read input lines to the end, and to answer each.
     Session,

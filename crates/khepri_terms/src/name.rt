@@ -16,7 +16,7 @@ use std::hash::{Hash, Hasher};
 use std::marker::Model;
 
 /// What a name is written as: a word of the program or a user's text.
-#[derive(Clone, Copy, Debug, PartialEq, Eq)]
+#[derive(Clone, Copy, PartialEq, Eq)]
 pub enum Kind {
     Atom,
     Text,
@@ -38,7 +38,7 @@ impl Kind {
 pub const MAX_NAME: usize = 255;
 
 /// A kind and 1 to 255 bytes.
-#[derive(Debug, Drop)]
+#[derive(Drop)]
 pub struct Name {
     kind: Kind,
     bytes: Bytes,

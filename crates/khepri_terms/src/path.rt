@@ -25,7 +25,7 @@ pub const MAX_PATH_TEXT: usize = 1024;
 const MAX_PATH_NAMES: usize = 512;
 
 /// A list of names; the root is the empty one.
-#[derive(Debug, Drop)]
+#[derive(Drop)]
 pub struct Path {
     names: Vec<Name>,
     alloc: Global,

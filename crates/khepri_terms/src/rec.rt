@@ -26,7 +26,7 @@ pub const MAX_FIELDS: usize = 64;
 pub const MAX_REC_TEXT: usize = 4096;
 
 /// A key, which is the bytes of a Text name, and its value.
-#[derive(Debug, Drop)]
+#[derive(Drop)]
 pub struct Field {
     pub key: Bytes,
     pub value: Scalar,
@@ -93,7 +93,7 @@ impl Hash for Field {
 }
 
 /// Fields in rising order of key: at most 64, and at most 4,096 bytes of text.
-#[derive(Debug, Drop)]
+#[derive(Drop)]
 pub struct Rec {
     fields: Vec<Field>,
     alloc: Global,

@@ -18,7 +18,7 @@ use std::cmp::Ordering;
 use std::hash::{Hash, Hasher};
 
 /// What a field holds.
-#[derive(Debug, Drop)]
+#[derive(Drop)]
 pub enum Scalar {
     Int(i64),
     Text(Bytes),

@@ -6,7 +6,7 @@ use crate::watch::Watching;
 use khepri_terms::Path;
 
 /// What a client asks of the tree.
-#[derive(Debug, Drop)]
+#[derive(Drop)]
 pub enum Command {
     /// Sets the payload at a path, and makes the nodes that are missing on the way; then sets the watches of the node.
     Put {
@@ -61,14 +61,14 @@ pub enum Command {
 }
 
 /// What a log keeps, and what a machine is given.
-#[derive(Debug, Drop)]
+#[derive(Drop)]
 pub enum Entry {
     /// A command, with the connection and the input line that it came from. In a session the connection is 0.
     Command { conn: u64, line: u64, cmd: Command },
 }
 
 /// An input line.
-#[derive(Debug, Drop)]
+#[derive(Drop)]
 pub enum Line {
     /// A command, asked of a node.
     Command { node: u8, cmd: Command },

@@ -5,7 +5,7 @@ ghost use Rattle.khepri_types.specs.Compares.{compares};
 use std::cmp::Ordering;
 
 /// A comparison that a condition asks for.
-#[derive(Clone, Copy, Debug, PartialEq, Eq)]
+#[derive(Clone, Copy, PartialEq, Eq)]
 pub enum Compare {
     Eq,
     Ne,

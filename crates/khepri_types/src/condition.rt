@@ -13,7 +13,7 @@ use sqlite_items::{Boxed, Items};
 use std::alloc::{AllocError, Global};
 
 /// What may be asked of a node. On an absent node `Absent` holds, and no other atom.
-#[derive(Debug, Drop)]
+#[derive(Drop)]
 pub enum Condition {
     /// No node stands.
     Absent,

@@ -9,14 +9,14 @@ use sqlite_items::Items;
 use std::alloc::{AllocError, Global};
 
 /// A byte that stands for itself, or `*`, which stands for some bytes, perhaps none.
-#[derive(Clone, Copy, Debug, PartialEq, Eq, Drop)]
+#[derive(Clone, Copy, PartialEq, Eq, Drop)]
 pub enum GlobPiece {
     Byte(u8),
     Star,
 }
 
 /// A kind, and 1 to 255 pieces.
-#[derive(Debug, Drop)]
+#[derive(Drop)]
 pub struct Glob {
     pub kind: Kind,
     pub pieces: Items<GlobPiece>,

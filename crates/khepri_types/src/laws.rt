@@ -97,7 +97,7 @@ pub fn positions_rise()
 {}
 
 /// After n entries each payload version is from 1 to 1 + n, and each child-list version from 1 to 1 + 34 n: it rises by one where a
-/// child is made, and by one with each round that takes nodes away, and an entry makes at most 33 nodes.
+/// child is made, and by one with each round that takes nodes away, and an entry makes at most 32 nodes.
 pub fn versions_are_small()
     ensures payload { (es : List EntryText) (p : List NameText) (n : Node) → get (run_from opening_state es).tree p ≡ Some n → (1 ≤ n.pv) × (n.pv ≤ 1 + length es) }
     ensures children { (es : List EntryText) (p : List NameText) (n : Node) → get (run_from opening_state es).tree p ≡ Some n → (1 ≤ n.cv) × (n.cv ≤ 1 + 34 * length es) }

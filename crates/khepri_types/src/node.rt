@@ -6,7 +6,7 @@ use khepri_terms::{Path, Rec};
 use std::alloc::AllocError;
 
 /// What a node carries.
-#[derive(Debug, Drop)]
+#[derive(Drop)]
 pub enum Payload {
     Empty,
     Fields(Rec),
@@ -41,7 +41,7 @@ impl Payload {
 }
 
 /// A node of the tree.
-#[derive(Debug, Drop)]
+#[derive(Drop)]
 pub struct Node {
     pub payload: Payload,
     /// The payload version: 1 where the node was made, and one more at each payload that differs. At 2^64 - 1 it stays.
@@ -53,7 +53,7 @@ pub struct Node {
 }
 
 /// A node with its path, as a tree is built from.
-#[derive(Debug, Drop)]
+#[derive(Drop)]
 pub struct NodePart {
     pub path: Path,
     pub payload: Payload,

@@ -4,7 +4,7 @@ use crate::command::Command;
 use crate::reply::Reply;
 
 /// What stands in a `#` line.
-#[derive(Debug, Drop)]
+#[derive(Drop)]
 pub enum EntryText {
     /// A command of a line of this session, or of an earlier one.
     Command(Command),
@@ -15,7 +15,7 @@ pub enum EntryText {
 }
 
 /// Why a line is refused.
-#[derive(Clone, Copy, Debug, PartialEq, Eq)]
+#[derive(Clone, Copy, PartialEq, Eq)]
 pub enum Reason {
     /// It has more bytes than a line may have.
     TooLong,
@@ -38,7 +38,7 @@ pub enum Reason {
 }
 
 /// Why a node stopped.
-#[derive(Clone, Copy, Debug, PartialEq, Eq)]
+#[derive(Clone, Copy, PartialEq, Eq)]
 pub enum StopWord {
     /// A line asked for it.
     Order,
@@ -51,7 +51,7 @@ pub enum StopWord {
 }
 
 /// What a look-up found.
-#[derive(Clone, Copy, Debug, PartialEq, Eq)]
+#[derive(Clone, Copy, PartialEq, Eq)]
 pub enum Rows {
     /// There is no such projection.
     Absent,
@@ -59,7 +59,7 @@ pub enum Rows {
 
 /// A line of the output. `line` is the number of the input line that it answers, counted from 1 and 0 where none is meant,
 /// and `n` a position in the history.
-#[derive(Debug, Drop)]
+#[derive(Drop)]
 pub enum OutLine {
     /// Entry n, first applied. Line 0 stands for fires, noops and entries of earlier sessions.
     Entry { n: u64, line: u64, text: EntryText },

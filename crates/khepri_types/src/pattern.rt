@@ -9,7 +9,7 @@ use std::alloc::{AllocError, Global};
 use std::marker::Model;
 
 /// What one name of a path, or several, may be.
-#[derive(Debug, Drop)]
+#[derive(Drop)]
 pub enum PatternPart {
     /// This name.
     Name(Name),
@@ -22,7 +22,7 @@ pub enum PatternPart {
 }
 
 /// At most 32 parts, and at most 1,024 bytes of text; the pattern of the root has none.
-#[derive(Debug, Drop)]
+#[derive(Drop)]
 pub struct Pattern {
     parts: Items<PatternPart>,
 }

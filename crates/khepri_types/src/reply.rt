@@ -4,7 +4,7 @@ use crate::shown::ShownNodes;
 use khepri_terms::Path;
 
 /// The answer to a command.
-#[derive(Debug, Drop)]
+#[derive(Drop)]
 pub enum Reply {
     /// The payload version of the written node after the change, or how many nodes a deletion dropped; and how many nodes settling removed.
     Changed {

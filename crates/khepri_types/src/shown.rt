@@ -7,7 +7,7 @@ use std::alloc::Global;
 use std::marker::Model;
 
 /// A node with its path.
-#[derive(Debug, Drop)]
+#[derive(Drop)]
 pub struct ShownNode {
     pub path: Path,
     pub pv: u64,
@@ -18,7 +18,7 @@ pub struct ShownNode {
 }
 
 /// Nodes, in the order in which a reply lists them.
-#[derive(Debug, Drop)]
+#[derive(Drop)]
 pub struct ShownNodes {
     items: Vec<ShownNode>,
 }

@@ -4,7 +4,7 @@ use crate::watch::Watch;
 use khepri_terms::Name;
 
 /// A standing node, with what its place in the tree adds.
-#[derive(Clone, Copy, Debug)]
+#[derive(Clone, Copy)]
 pub struct NodeView<'a> {
     /// The last name of its path, none at the root.
     pub name: Option<&'a Name>,

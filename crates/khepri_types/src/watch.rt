@@ -7,7 +7,7 @@ use std::alloc::{AllocError, Global};
 use std::marker::Model;
 
 /// A path, and what has to hold there for the node that has the watch to stay.
-#[derive(Debug, Drop)]
+#[derive(Drop)]
 pub struct Watch {
     pub target: Path,
     pub cond: Condition,
@@ -26,7 +26,7 @@ impl Watch {
 }
 
 /// The watches of a node, in the order in which they were given.
-#[derive(Debug, Drop)]
+#[derive(Drop)]
 pub struct Watches {
     items: Vec<Watch>,
 }
@@ -93,7 +93,7 @@ fn copies(alloc: Global, watches: &[Watch]) -> Result<Vec<Watch>, AllocError>
 }
 
 /// What a command says of the watches of the node that it writes.
-#[derive(Debug, Drop)]
+#[derive(Drop)]
 pub enum Watching {
     /// Nothing: the node keeps its watches.
     Stay,

@@ -1,7 +1,7 @@
 use std::alloc::AllocError;
 
 /// What a reader of lines gives.
-#[derive(Debug, Drop)]
+#[derive(Drop)]
 pub enum Next {
     /// The next line, without its LF and a CR right before it.
     Line(Vec<u8>),

@@ -1,12 +1,28 @@
--- The groups of words of a condition, one after another.
-use Rattle.std.proofs.Common.{◌≡◌, ℕ, false, List, ◌∙◌, codes}
-use Rattle.std.proofs.lemmas.Bool.{cond-false}
+-- The groups of words of a condition, and which of them a text begins with.
+use Rattle.std.proofs.Common.{◌≡◌, ℕ, true, List, ◌++◌, drop, refl, sym, ap, ◌∙◌, codes}
 use Rattle.khepri_types.specs.Words.{begins}
-use Rattle.khepri_types.specs.ReadingConditions.{Reading, layer_at}
-use Rattle.line_text.specs.Layers.{outer_at, asking_at}
+use Rattle.khepri_types.specs.ReadingConditions.{Reading, not_asked, layer_at}
+use Rattle.khepri_types.proofs.Word.{word_takes}
+use Rattle.line_text.specs.Layers.{all_asked, any_asked}
 
--- what is none of the words that stand alone
-pub layer_asks : (inner : ℕ → List ℕ → Reading) (left : ℕ) (text : List ℕ) → begins (codes "absent") text ≡ false → begins (codes "exists") text ≡ false → begins (codes "payload") text ≡ false → begins (codes "data") text ≡ false
-    → begins (codes "sproc") text ≡ false → layer_at inner left text ≡ asking_at inner left text
-unfolding layer_at asking_at outer_at
-layer_asks inner left text a b c d e = cond-false _ _ _ a ∙ (cond-false _ _ _ b ∙ (cond-false _ _ _ c ∙ (cond-false _ _ _ d ∙ cond-false _ _ _ e)))
+-- no word is the beginning of another
+at_not : (inner : ℕ → List ℕ → Reading) (left : ℕ) (rest : List ℕ) → layer_at inner left (codes "not(" ++ rest) ≡ not_asked inner left rest
+unfolding layer_at
+at_not inner left rest = refl
+
+at_all : (inner : ℕ → List ℕ → Reading) (left : ℕ) (rest : List ℕ) → layer_at inner left (codes "all(" ++ rest) ≡ all_asked inner left rest
+unfolding layer_at
+at_all inner left rest = refl
+
+at_any : (inner : ℕ → List ℕ → Reading) (left : ℕ) (rest : List ℕ) → layer_at inner left (codes "any(" ++ rest) ≡ any_asked inner left rest
+unfolding layer_at
+at_any inner left rest = refl
+
+pub layer_not : (inner : ℕ → List ℕ → Reading) (left : ℕ) (text rest : List ℕ) → begins (codes "not(") text ≡ true → rest ≡ drop 4 text → layer_at inner left text ≡ not_asked inner left rest
+layer_not inner left text rest e is = ap (layer_at inner left) (word_takes (codes "not(") text e) ∙ (at_not inner left (drop 4 text) ∙ ap (not_asked inner left) (sym is))
+
+pub layer_all : (inner : ℕ → List ℕ → Reading) (left : ℕ) (text rest : List ℕ) → begins (codes "all(") text ≡ true → rest ≡ drop 4 text → layer_at inner left text ≡ all_asked inner left rest
+layer_all inner left text rest e is = ap (layer_at inner left) (word_takes (codes "all(") text e) ∙ (at_all inner left (drop 4 text) ∙ ap (all_asked inner left) (sym is))
+
+pub layer_any : (inner : ℕ → List ℕ → Reading) (left : ℕ) (text rest : List ℕ) → begins (codes "any(") text ≡ true → rest ≡ drop 4 text → layer_at inner left text ≡ any_asked inner left rest
+layer_any inner left text rest e is = ap (layer_at inner left) (word_takes (codes "any(") text e) ∙ (at_any inner left (drop 4 text) ∙ ap (any_asked inner left) (sym is))

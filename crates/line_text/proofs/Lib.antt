@@ -4,5 +4,6 @@ pub mod Only
 pub mod Stages
 pub mod Loops
 pub mod Layers
+pub mod Atoms
 pub mod Said
 pub mod Ends

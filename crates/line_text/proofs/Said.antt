@@ -11,7 +11,7 @@ use Rattle.khepri_types.specs.Compares.{compare_text}
 use Rattle.khepri_types.specs.Globs.{glob_text}
 use Rattle.khepri_types.specs.declared.condition.Condition.{Condition, roll-Condition}
 use Rattle.khepri_types.specs.declared.condition.Condition.TheVariants as c
-use Rattle.khepri_types.specs.declared.condition.Condition.TheVariants.{rolls-Absent, rolls-Exists, rolls-Payload, rolls-Data, rolls-Sproc, rolls-Name, rolls-Is, rolls-Field, rolls-Pv, rolls-Cv, rolls-Kids, rolls-All, rolls-Any}
+use Rattle.khepri_types.specs.declared.condition.Condition.TheVariants.{rolls-Absent, rolls-Exists, rolls-Payload, rolls-Data, rolls-Sproc, rolls-Name, rolls-Is, rolls-Field, rolls-Pv, rolls-Cv, rolls-Kids, rolls-Not, rolls-All, rolls-Any}
 use Rattle.khepri_types.specs.declared.condition.Condition.TheFolds.{fold-roll-Condition}
 use Rattle.khepri_types.specs.declared.condition.Condition.TheOpen.{Condition-F}
 use Rattle.khepri_types.specs.ConditionTexts.{joined, asked_text, number_text, layer_text, condition_text}
@@ -62,6 +62,10 @@ cv_printed op n v old new is e = said (Condition-F.Cv op n) (c.Cv op n) v (asked
 pub kids_printed : (op : Compare) (n : ℕ) (v : Condition) (old new : List ℕ) → v ≡ c.Kids op n → new ≡ old ++ asked_text (codes "kids") (number_text op n) → new ≡ old ++ condition_text v
 unfolding layer_text
 kids_printed op n v old new is e = said (Condition-F.Kids op n) (c.Kids op n) v (asked_text (codes "kids") (number_text op n)) old new (rolls-Kids op n) is (fold-roll-Condition (List ℕ) layer_text (Condition-F.Kids op n)) e
+
+pub not_printed : (x : Condition) (v : Condition) (old new : List ℕ) → v ≡ c.Not x → new ≡ old ++ asked_text (codes "not") (condition_text x) → new ≡ old ++ condition_text v
+unfolding layer_text
+not_printed x v old new is e = said (Condition-F.Not x) (c.Not x) v (asked_text (codes "not") (condition_text x)) old new (rolls-Not x) is (fold-roll-Condition (List ℕ) layer_text (Condition-F.Not x)) e
 
 pub all_printed : (xs : List Condition) (v : Condition) (old new : List ℕ) → v ≡ c.All xs → new ≡ old ++ asked_text (codes "all") (joined (map condition_text xs)) → new ≡ old ++ condition_text v
 unfolding layer_text

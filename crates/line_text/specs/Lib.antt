@@ -3,3 +3,4 @@ pub mod Conditions
 pub mod Joining
 pub mod Layers
 pub mod Commands
+pub mod Numbers

@@ -5,7 +5,7 @@ ghost use Rattle.khepri_terms.specs.Records.{scalar_text, rec_text};
 ghost use Rattle.khepri_types.specs.Compares.{compare_text};
 ghost use Rattle.khepri_types.specs.ConditionTexts.{asked_text, number_text};
 ghost use Rattle.khepri_types.specs.Globs.{glob_text};
-ghost use Rattle.line_text.specs.Layers.{field_op, field_value, pv_asked, cv_asked, kids_asked};
+ghost use Rattle.line_text.specs.Layers.{field_op, field_value, pv_asked, cv_asked, kids_asked, asking_at, atom_at};
 ghost use Rattle.khepri_types.specs.ReadingConditions.{after_byte, compare_at, key_at, name_asked, is_asked, field_asked, number_asked};
 
 use crate::glob::{append_glob, read_glob};
@@ -49,7 +49,6 @@ fn compare_word(op: Compare) -> &'static [u8]
 }
 
 // The comparison at the front, and what is after it.
-#[tactic(auto, unfolding(khepri_types::specs::ReadingConditions::compare_at))]
 fn read_compare(text: &[u8]) -> Result<(Compare, &[u8]), TextFault>
     ensures value { IfOk result (λ x. compare_at text.now ≡ Some (x.0, x.1.now)) }
     ensures bad { result ≡ Err TextFault.Bad → compare_at text.now ≡ None }
@@ -175,9 +174,9 @@ fn read_key(alloc: Global, text: &[u8]) -> Result<(Name, &[u8]), TextFault>
     }
 }
 
-/// Behind `name(`.
+// Behind `name(`.
 #[tactic(auto, unfolding(khepri_types::specs::ReadingConditions::name_asked))]
-pub(crate) fn read_name_asked(
+fn read_name_asked(
     alloc: Global,
     left: usize,
     text: &[u8],
@@ -190,9 +189,9 @@ pub(crate) fn read_name_asked(
     Ok((Condition::Name(glob), left, rest))
 }
 
-/// Behind `is(`.
+// Behind `is(`.
 #[tactic(auto, unfolding(khepri_types::specs::ReadingConditions::is_asked))]
-pub(crate) fn read_is_asked(
+fn read_is_asked(
     alloc: Global,
     left: usize,
     text: &[u8],
@@ -205,9 +204,9 @@ pub(crate) fn read_is_asked(
     Ok((Condition::Is(rec), left, rest))
 }
 
-/// Behind `field(`.
+// Behind `field(`.
 #[tactic(auto, unfolding(khepri_types::specs::ReadingConditions::field_asked))]
-pub(crate) fn read_field_asked(
+fn read_field_asked(
     alloc: Global,
     left: usize,
     text: &[u8],
@@ -268,11 +267,8 @@ fn read_number_asked(text: &[u8]) -> Result<(Compare, u64, &[u8]), TextFault>
     Ok((op, number, rest))
 }
 
-/// Behind `pv(`.
-pub(crate) fn read_pv_asked(
-    left: usize,
-    text: &[u8],
-) -> Result<(Condition, usize, &[u8]), TextFault>
+// Behind `pv(`.
+fn read_pv_asked(left: usize, text: &[u8]) -> Result<(Condition, usize, &[u8]), TextFault>
     ensures value { IfOk result (λ x. pv_asked left text.now ≡ Some (x.0, x.1, x.2.now)) }
     ensures bad { result ≡ Err TextFault.Bad → pv_asked left text.now ≡ None }
 {
@@ -280,11 +276,8 @@ pub(crate) fn read_pv_asked(
     Ok((Condition::Pv(op, number), left, rest))
 }
 
-/// Behind `cv(`.
-pub(crate) fn read_cv_asked(
-    left: usize,
-    text: &[u8],
-) -> Result<(Condition, usize, &[u8]), TextFault>
+// Behind `cv(`.
+fn read_cv_asked(left: usize, text: &[u8]) -> Result<(Condition, usize, &[u8]), TextFault>
     ensures value { IfOk result (λ x. cv_asked left text.now ≡ Some (x.0, x.1, x.2.now)) }
     ensures bad { result ≡ Err TextFault.Bad → cv_asked left text.now ≡ None }
 {
@@ -292,14 +285,68 @@ pub(crate) fn read_cv_asked(
     Ok((Condition::Cv(op, number), left, rest))
 }
 
-/// Behind `kids(`.
-pub(crate) fn read_kids_asked(
-    left: usize,
-    text: &[u8],
-) -> Result<(Condition, usize, &[u8]), TextFault>
+// Behind `kids(`.
+fn read_kids_asked(left: usize, text: &[u8]) -> Result<(Condition, usize, &[u8]), TextFault>
     ensures value { IfOk result (λ x. kids_asked left text.now ≡ Some (x.0, x.1, x.2.now)) }
     ensures bad { result ≡ Err TextFault.Bad → kids_asked left text.now ≡ None }
 {
     let (op, number, rest) = read_number_asked(text)?;
     Ok((Condition::Kids(op, number), left, rest))
+}
+
+/// The condition at the front that has none in it: a word, or what it asks of a node.
+pub(crate) fn read_atom(
+    alloc: Global,
+    left: usize,
+    text: &[u8],
+) -> Result<(Condition, usize, &[u8]), TextFault>
+    ensures value { IfOk result (λ x. atom_at left text.now ≡ Some (x.0, x.1, x.2.now)) }
+    ensures bad { result ≡ Err TextFault.Bad → atom_at left text.now ≡ None }
+{
+    if let Some(rest) = strip(text, b"absent") {
+        return Ok((Condition::Absent, left, rest));
+    }
+    if let Some(rest) = strip(text, b"exists") {
+        return Ok((Condition::Exists, left, rest));
+    }
+    if let Some(rest) = strip(text, b"payload") {
+        return Ok((Condition::Payload, left, rest));
+    }
+    if let Some(rest) = strip(text, b"data") {
+        return Ok((Condition::Data, left, rest));
+    }
+    if let Some(rest) = strip(text, b"sproc") {
+        return Ok((Condition::Sproc, left, rest));
+    }
+    read_asking(alloc, left, text)
+}
+
+// The condition at the front that asks something of a node.
+fn read_asking(
+    alloc: Global,
+    left: usize,
+    text: &[u8],
+) -> Result<(Condition, usize, &[u8]), TextFault>
+    ensures value { IfOk result (λ x. asking_at left text.now ≡ Some (x.0, x.1, x.2.now)) }
+    ensures bad { result ≡ Err TextFault.Bad → asking_at left text.now ≡ None }
+{
+    if let Some(rest) = strip(text, b"name(") {
+        return read_name_asked(alloc, left, rest);
+    }
+    if let Some(rest) = strip(text, b"is(") {
+        return read_is_asked(alloc, left, rest);
+    }
+    if let Some(rest) = strip(text, b"field(") {
+        return read_field_asked(alloc, left, rest);
+    }
+    if let Some(rest) = strip(text, b"pv(") {
+        return read_pv_asked(left, rest);
+    }
+    if let Some(rest) = strip(text, b"cv(") {
+        return read_cv_asked(left, rest);
+    }
+    if let Some(rest) = strip(text, b"kids(") {
+        return read_kids_asked(left, rest);
+    }
+    Err(TextFault::Bad)
 }

@@ -5,16 +5,15 @@ ghost use Rattle.khepri_terms.specs.Paths.{path_text};
 ghost use Rattle.khepri_types.specs.ConditionTexts.{condition_text};
 ghost use Rattle.khepri_types.specs.PatternTexts.{pattern_text};
 ghost use Rattle.khepri_types.specs.Texts.{payload_text, watching_text, assigned_text, command_text};
-ghost use Rattle.line_text.specs.Commands.{cas_set, second_command};
+ghost use Rattle.line_text.specs.Commands.{spelled_set, assigned, limit_behind, second_command};
 ghost use Rattle.line_text.specs.Grammar.{SpellsCommand, IsNoCommand};
-ghost use Rattle.khepri_types.specs.Reading.{spelled_path, Assigned, spelled_assigned, spelled_cas, spelled_pattern, spelled_limit, spelled_many, spelled_command};
+ghost use Rattle.khepri_types.specs.Reading.{spelled_path, spelled_assigned, spelled_cas, spelled_pattern, spelled_limit, spelled_many, spelled_command};
 
 use crate::atom::read_mark;
-use crate::condition::match_condition;
 use crate::pattern::{append_pattern, read_pattern};
 use crate::payload::{append_payload, read_payload};
-use crate::watch::{append_asked, append_watching, read_watching};
-use crate::words::{append_number, append_word};
+use crate::watch::{append_asked, append_watching, read_asked, read_watching};
+use crate::words::{append_number, append_word, strip};
 use khepri_terms::numbers::read_number;
 use khepri_terms::{Path, TextFault};
 use khepri_types::limits::MAX_SHOWN_NODES;
@@ -166,45 +165,37 @@ fn read_whole_pattern(alloc: Global, text: &[u8]) -> Result<Pattern, TextFault>
     }
 }
 
-// The path, the payload and the watches that the whole text spells.
-#[tactic(auto, unfolding(khepri_types::specs::Reading::spelled_assigned))]
-fn read_assigned(alloc: Global, text: &[u8]) -> Result<(Path, Payload, Watching), TextFault>
-    ensures value { IfOk result (λ x. spelled_assigned text.now ≡ Some (record { path = x.0; payload = x.1; watch = x.2 })) }
-    ensures bad { result ≡ Err TextFault.Bad → spelled_assigned text.now ≡ None }
-{
-    let (path, rest) = Path::read(alloc, text)?;
-    let rest = read_mark(rest, b' ')?;
-    let (payload, rest) = read_payload(alloc, rest)?;
-    let watch = read_watching(alloc, rest)?;
-    Ok((path, payload, watch))
-}
-
-// Behind `cas `.
-#[tactic(auto, unfolding(khepri_types::specs::Reading::spelled_cas))]
-fn read_cas(alloc: Global, text: &[u8]) -> Result<Command, TextFault>
-    ensures value { IfOk result (λ x. spelled_cas text.now ≡ Some x) }
-    ensures bad { result ≡ Err TextFault.Bad → spelled_cas text.now ≡ None }
-{
-    let (path, rest) = Path::read(alloc, text)?;
-    let rest = read_mark(rest, b' ')?;
-    let (cond, rest) = match_condition(alloc, rest)?;
-    read_cas_set(alloc, path, cond, rest)
-}
-
-// Behind `cas PATH COND`.
-#[tactic(auto, unfolding(crate::specs::Commands::cas_set))]
-fn read_cas_set(
-    alloc: Global,
-    path: Path,
-    cond: Condition,
-    text: &[u8],
-) -> Result<Command, TextFault>
-    ensures value { IfOk result (λ x. cas_set path cond text.now ≡ Some x) }
-    ensures bad { result ≡ Err TextFault.Bad → cas_set path cond text.now ≡ None }
+// The payload and what is said of watches, behind a space, as the whole text spells them.
+#[tactic(auto, unfolding(crate::specs::Commands::spelled_set))]
+fn read_set(alloc: Global, text: &[u8]) -> Result<(Payload, Watching), TextFault>
+    ensures value { IfOk result (λ x. spelled_set text.now ≡ Some (x.0, x.1)) }
+    ensures bad { result ≡ Err TextFault.Bad → spelled_set text.now ≡ None }
 {
     let rest = read_mark(text, b' ')?;
     let (payload, rest) = read_payload(alloc, rest)?;
     let watch = read_watching(alloc, rest)?;
+    Ok((payload, watch))
+}
+
+// The path, the payload and the watches that the whole text spells.
+#[tactic(auto, unfolding(khepri_types::specs::Reading::spelled_assigned), using(crate::proofs::Ends::assigned_read, crate::proofs::Ends::assigned_unread))]
+fn read_assigned(alloc: Global, text: &[u8]) -> Result<(Path, Payload, Watching), TextFault>
+    ensures value { IfOk result (λ x. spelled_assigned text.now ≡ Some (assigned x.0 x.1 x.2)) }
+    ensures bad { result ≡ Err TextFault.Bad → spelled_assigned text.now ≡ None }
+{
+    let (path, rest) = Path::read(alloc, text)?;
+    let (payload, watch) = read_set(alloc, rest)?;
+    Ok((path, payload, watch))
+}
+
+// Behind `cas `.
+#[tactic(auto, using(crate::proofs::Ends::cas_read, crate::proofs::Ends::cas_unasked, crate::proofs::Ends::cas_unset))]
+fn read_cas(alloc: Global, text: &[u8]) -> Result<Command, TextFault>
+    ensures value { IfOk result (λ x. spelled_cas text.now ≡ Some x) }
+    ensures bad { result ≡ Err TextFault.Bad → spelled_cas text.now ≡ None }
+{
+    let (path, cond, rest) = read_asked(alloc, text)?;
+    let (payload, watch) = read_set(alloc, rest)?;
     Ok(Command::Cas {
         path,
         cond,
@@ -233,15 +224,24 @@ fn read_limit(text: &[u8]) -> Result<u64, TextFault>
     }
 }
 
+// How many nodes the whole text asks for, behind a space.
+#[tactic(auto, unfolding(crate::specs::Commands::limit_behind))]
+fn read_limit_behind(text: &[u8]) -> Result<u64, TextFault>
+    ensures value { IfOk result (λ n. limit_behind text.now ≡ Some n) }
+    ensures bad { result ≡ Err TextFault.Bad → limit_behind text.now ≡ None }
+{
+    let rest = read_mark(text, b' ')?;
+    read_limit(rest)
+}
+
 // Behind `many `.
-#[tactic(auto, unfolding(khepri_types::specs::Reading::spelled_many))]
+#[tactic(auto, unfolding(khepri_types::specs::Reading::spelled_many, crate::specs::Commands::limit_behind))]
 fn read_many(alloc: Global, text: &[u8]) -> Result<Command, TextFault>
     ensures value { IfOk result (λ x. spelled_many text.now ≡ Some x) }
     ensures bad { result ≡ Err TextFault.Bad → spelled_many text.now ≡ None }
 {
     let (pattern, rest) = read_pattern(alloc, text)?;
-    let rest = read_mark(rest, b' ')?;
-    let limit = read_limit(rest)?;
+    let limit = read_limit_behind(rest)?;
     Ok(Command::Many { pattern, limit })
 }
 
@@ -257,12 +257,11 @@ pub fn read_command(alloc: Global, text: &[u8]) -> Result<Command, TextFault>
 }
 
 // The commands that write, each word in turn, and then the others.
-#[tactic(auto, unfolding(khepri_types::specs::Reading::spelled_command, crate::specs::Commands::second_command))]
 pub(crate) fn match_command(alloc: Global, text: &[u8]) -> Result<Command, TextFault>
     ensures value { IfOk result (λ cmd. spelled_command text.now ≡ Some cmd) }
     ensures bad { result ≡ Err TextFault.Bad → spelled_command text.now ≡ None }
 {
-    if let Some(rest) = text.strip_prefix(b"put ") {
+    if let Some(rest) = strip(text, b"put ") {
         let (path, payload, watch) = read_assigned(alloc, rest)?;
         return Ok(Command::Put {
             path,
@@ -270,7 +269,7 @@ pub(crate) fn match_command(alloc: Global, text: &[u8]) -> Result<Command, TextF
             watch,
         });
     }
-    if let Some(rest) = text.strip_prefix(b"create ") {
+    if let Some(rest) = strip(text, b"create ") {
         let (path, payload, watch) = read_assigned(alloc, rest)?;
         return Ok(Command::Create {
             path,
@@ -278,7 +277,7 @@ pub(crate) fn match_command(alloc: Global, text: &[u8]) -> Result<Command, TextF
             watch,
         });
     }
-    if let Some(rest) = text.strip_prefix(b"update ") {
+    if let Some(rest) = strip(text, b"update ") {
         let (path, payload, watch) = read_assigned(alloc, rest)?;
         return Ok(Command::Update {
             path,
@@ -286,10 +285,10 @@ pub(crate) fn match_command(alloc: Global, text: &[u8]) -> Result<Command, TextF
             watch,
         });
     }
-    if let Some(rest) = text.strip_prefix(b"cas ") {
+    if let Some(rest) = strip(text, b"cas ") {
         return read_cas(alloc, rest);
     }
-    if let Some(rest) = text.strip_prefix(b"clear ") {
+    if let Some(rest) = strip(text, b"clear ") {
         let path = read_whole_path(alloc, rest)?;
         return Ok(Command::Clear { path });
     }
@@ -297,27 +296,26 @@ pub(crate) fn match_command(alloc: Global, text: &[u8]) -> Result<Command, TextF
 }
 
 // The commands that delete or ask, each word in turn.
-#[tactic(auto, unfolding(crate::specs::Commands::second_command))]
 fn match_second(alloc: Global, text: &[u8]) -> Result<Command, TextFault>
     ensures value { IfOk result (λ cmd. second_command text.now ≡ Some cmd) }
     ensures bad { result ≡ Err TextFault.Bad → second_command text.now ≡ None }
 {
-    if let Some(rest) = text.strip_prefix(b"del ") {
+    if let Some(rest) = strip(text, b"del ") {
         let path = read_whole_path(alloc, rest)?;
         return Ok(Command::Del { path });
     }
-    if let Some(rest) = text.strip_prefix(b"delmany ") {
+    if let Some(rest) = strip(text, b"delmany ") {
         let pattern = read_whole_pattern(alloc, rest)?;
         return Ok(Command::Delmany { pattern });
     }
-    if let Some(rest) = text.strip_prefix(b"get ") {
+    if let Some(rest) = strip(text, b"get ") {
         let path = read_whole_path(alloc, rest)?;
         return Ok(Command::Get { path });
     }
-    if let Some(rest) = text.strip_prefix(b"many ") {
+    if let Some(rest) = strip(text, b"many ") {
         return read_many(alloc, rest);
     }
-    if let Some(rest) = text.strip_prefix(b"count ") {
+    if let Some(rest) = strip(text, b"count ") {
         let pattern = read_whole_pattern(alloc, rest)?;
         return Ok(Command::Count { pattern });
     }

@@ -3,12 +3,12 @@ ghost use Rattle.std.specs.Prelude.{◌≡◌, ◌++◌, ◌∷◌, [], ◌+◌,
 ghost use Rattle.khepri_types.specs.ConditionTexts.{joined, asked_text, condition_text};
 ghost use Rattle.khepri_types.specs.ReadingConditions.{list_end_at, not_asked, some_asked, list_asked, layer_at, nested_at, condition_at};
 ghost use Rattle.line_text.specs.Joining.{comma};
-ghost use Rattle.line_text.specs.Layers.{all_asked, any_asked, outer_at, asking_at};
+ghost use Rattle.line_text.specs.Layers.{all_asked, any_asked};
 ghost use Rattle.line_text.specs.Conditions.{OnlyCondition, BeginsNoCondition};
 
 use crate::atom::{
-    append_field_asked, append_is_asked, append_name_asked, append_number_asked, read_cv_asked,
-    read_field_asked, read_is_asked, read_kids_asked, read_mark, read_name_asked, read_pv_asked,
+    append_field_asked, append_is_asked, append_name_asked, append_number_asked, read_atom,
+    read_mark,
 };
 use crate::words::{append_word, strip};
 use khepri_terms::TextFault;
@@ -48,14 +48,22 @@ pub(crate) fn append_condition(cond: &Condition, out: &mut Vec<u8>) -> Result<()
         Condition::Pv(op, number) => append_number_asked(b"pv(", *op, *number, out),
         Condition::Cv(op, number) => append_number_asked(b"cv(", *op, *number, out),
         Condition::Kids(op, number) => append_number_asked(b"kids(", *op, *number, out),
-        Condition::Not(inner) => {
-            append_word(b"not(", out)?;
-            append_condition(inner.get(), out)?;
-            append_word(b")", out)
-        }
+        Condition::Not(inner) => append_not_asked(inner, out),
         Condition::All(parts) => append_list_asked(b"all(", parts.as_slice(), out),
         Condition::Any(parts) => append_list_asked(b"any(", parts.as_slice(), out),
     }
+}
+
+// Appends `not(COND)`.
+#[cycle(printing)]
+#[tactic(auto, using(khepri_terms::proofs::Printing::front_then))]
+fn append_not_asked(inner: &Boxed<Condition>, out: &mut Vec<u8>) -> Result<(), AllocError>
+    ensures ok { OnOk result (out.new.items ≡ out.old.items ++ asked_text (codes "not") (condition_text inner.now)) }
+    ensures front { take (length out.old.items) out.new.items ≡ out.old.items }
+{
+    append_word(b"not(", out)?;
+    append_condition(inner.get(), out)?;
+    append_word(b")", out)
 }
 
 // Appends a word that ends in `(`, the conditions joined by `,`, and a `)`.
@@ -143,9 +151,8 @@ fn read_nested(
     read_layer(alloc, nesting - 1, left - 1, text)
 }
 
-// The condition at the front, if it is a word, or else what it asks.
+// The condition at the front, one of conditions or else an atom.
 #[cycle(reading)]
-#[tactic(auto, unfolding(khepri_types::specs::ReadingConditions::layer_at, crate::specs::Layers::asking_at))]
 fn read_layer(
     alloc: Global,
     nesting: usize,
@@ -154,69 +161,6 @@ fn read_layer(
 ) -> Result<(Condition, usize, &[u8]), TextFault>
     ensures value { IfOk result (λ x. layer_at (nested_at nesting) left text.now ≡ Some (x.0, x.1, x.2.now)) }
     ensures bad { result ≡ Err TextFault.Bad → layer_at (nested_at nesting) left text.now ≡ None }
-{
-    if let Some(rest) = strip(text, b"absent") {
-        return Ok((Condition::Absent, left, rest));
-    }
-    if let Some(rest) = strip(text, b"exists") {
-        return Ok((Condition::Exists, left, rest));
-    }
-    if let Some(rest) = strip(text, b"payload") {
-        return Ok((Condition::Payload, left, rest));
-    }
-    if let Some(rest) = strip(text, b"data") {
-        return Ok((Condition::Data, left, rest));
-    }
-    if let Some(rest) = strip(text, b"sproc") {
-        return Ok((Condition::Sproc, left, rest));
-    }
-    read_asking(alloc, nesting, left, text)
-}
-
-// The condition at the front, if it asks something of a node, or else one of conditions.
-#[cycle(reading)]
-#[tactic(auto, unfolding(crate::specs::Layers::asking_at))]
-fn read_asking(
-    alloc: Global,
-    nesting: usize,
-    left: usize,
-    text: &[u8],
-) -> Result<(Condition, usize, &[u8]), TextFault>
-    ensures value { IfOk result (λ x. asking_at (nested_at nesting) left text.now ≡ Some (x.0, x.1, x.2.now)) }
-    ensures bad { result ≡ Err TextFault.Bad → asking_at (nested_at nesting) left text.now ≡ None }
-{
-    if let Some(rest) = strip(text, b"name(") {
-        return read_name_asked(alloc, left, rest);
-    }
-    if let Some(rest) = strip(text, b"is(") {
-        return read_is_asked(alloc, left, rest);
-    }
-    if let Some(rest) = strip(text, b"field(") {
-        return read_field_asked(alloc, left, rest);
-    }
-    if let Some(rest) = strip(text, b"pv(") {
-        return read_pv_asked(left, rest);
-    }
-    if let Some(rest) = strip(text, b"cv(") {
-        return read_cv_asked(left, rest);
-    }
-    if let Some(rest) = strip(text, b"kids(") {
-        return read_kids_asked(left, rest);
-    }
-    read_outer(alloc, nesting, left, text)
-}
-
-// The condition of conditions at the front.
-#[cycle(reading)]
-#[tactic(auto, unfolding(crate::specs::Layers::outer_at))]
-fn read_outer(
-    alloc: Global,
-    nesting: usize,
-    left: usize,
-    text: &[u8],
-) -> Result<(Condition, usize, &[u8]), TextFault>
-    ensures value { IfOk result (λ x. outer_at (nested_at nesting) left text.now ≡ Some (x.0, x.1, x.2.now)) }
-    ensures bad { result ≡ Err TextFault.Bad → outer_at (nested_at nesting) left text.now ≡ None }
 {
     if let Some(rest) = strip(text, b"not(") {
         return read_not_asked(alloc, nesting, left, rest);
@@ -227,7 +171,7 @@ fn read_outer(
     if let Some(rest) = strip(text, b"any(") {
         return read_any_asked(alloc, nesting, left, rest);
     }
-    Err(TextFault::Bad)
+    read_atom(alloc, left, text)
 }
 
 // Behind `not(`.

@@ -1,6 +1,6 @@
 // Input lines.
 ghost use Rattle.std.specs.Prelude.{◌≡◌, IfOk, Err, Some, None};
-ghost use Rattle.khepri_types.specs.Reading.{line_at};
+ghost use Rattle.khepri_types.specs.Reading.{spelled_command, asked, line_at};
 ghost use Rattle.line_text.specs.Grammar.{SpellsLine, IsNoLine};
 
 use crate::command::match_command;
@@ -26,13 +26,16 @@ fn match_line(alloc: Global, text: &[u8]) -> Result<Line, TextFault>
     ensures bad { result ≡ Err TextFault.Bad → line_at text.now ≡ None }
 {
     match text {
-        [b'@', digit @ b'1'..=b'9', b' ', rest @ ..] => {
-            let cmd = match_command(alloc, rest)?;
-            Ok(Line::Command {
-                node: *digit - b'0',
-                cmd,
-            })
-        }
+        [b'@', digit @ b'1'..=b'9', b' ', rest @ ..] => read_command_to(alloc, *digit - b'0', rest),
         _ => Err(TextFault::Bad),
     }
+}
+
+// The command to this node that the whole text spells.
+fn read_command_to(alloc: Global, node: u8, text: &[u8]) -> Result<Line, TextFault>
+    ensures value { IfOk result (λ line. asked node (spelled_command text.now) ≡ Some line) }
+    ensures bad { result ≡ Err TextFault.Bad → asked node (spelled_command text.now) ≡ None }
+{
+    let cmd = match_command(alloc, text)?;
+    Ok(Line::Command { node, cmd })
 }

@@ -2,13 +2,14 @@
 ghost use Rattle.std.specs.Prelude.{◌≡◌, ◌++◌, ◌∷◌, length, take, codes, IfOk, OnOk, OnErr, MatchOption, Err, Some, None};
 ghost use Rattle.std.specs.Fmt.{decimal};
 ghost use Rattle.khepri_types.specs.Texts.{entry_text, reply_text, reason_text, stop_text, rows_text, out_text};
-ghost use Rattle.khepri_types.specs.ReadingOut.{spelled_reason, spelled_stop, spelled_rows, entry_line, reply_line, refused_line, end_line, pending_line, rows_line, leads_line, follows_line, stopped_line, node_news, node_line, out_at};
+ghost use Rattle.khepri_types.specs.ReadingOut.{spelled_reason, spelled_stop, spelled_rows, entry_line, reply_line, end_line, pending_line, rows_line, node_news, node_line, out_at};
 ghost use Rattle.line_text.specs.Grammar.{SpellsOut, IsNoOut};
 
 use crate::entry::{append_entry, read_entry};
 use crate::reply::{append_reply, read_reply};
 use crate::words::{
     append_number, append_numbers, append_word, is_word, read_number_before, read_whole_number,
+    strip,
 };
 use khepri_terms::TextFault;
 use khepri_types::{EntryText, OutLine, Reason, Reply, Rows, StopWord};
@@ -246,16 +247,8 @@ fn read_reply_line(alloc: Global, text: &[u8]) -> Result<OutLine, TextFault>
     Ok(OutLine::Reply { line, n, reply })
 }
 
-#[tactic(auto, unfolding(khepri_types::specs::ReadingOut::refused_line))]
-fn read_refused_line(line: u64, text: &[u8]) -> Option<OutLine>
-    ensures { MatchOption result (refused_line line text.now ≡ None) (λ x. refused_line line text.now ≡ Some x) }
-{
-    let reason = read_reason(text)?;
-    Some(OutLine::Refused { line, reason })
-}
-
 // Behind `- `.
-#[tactic(auto, unfolding(khepri_types::specs::ReadingOut::end_line))]
+#[tactic(auto, unfolding(khepri_types::specs::ReadingOut::end_line, khepri_types::specs::ReadingOut::refused_line))]
 fn read_end_line(text: &[u8]) -> Option<OutLine>
     ensures { MatchOption result (end_line text.now ≡ None) (λ x. end_line text.now ≡ Some x) }
 {
@@ -263,7 +256,8 @@ fn read_end_line(text: &[u8]) -> Option<OutLine>
     if is_word(rest, b"lost") {
         return Some(OutLine::Lost { line });
     }
-    read_refused_line(line, rest)
+    let reason = read_reason(rest)?;
+    Some(OutLine::Refused { line, reason })
 }
 
 // Behind `? `.
@@ -287,43 +281,22 @@ fn read_rows_line(text: &[u8]) -> Option<OutLine>
     Some(OutLine::Read { line, n, rows })
 }
 
-#[tactic(auto, unfolding(khepri_types::specs::ReadingOut::leads_line))]
-fn read_leads_line(node: u8, text: &[u8]) -> Option<OutLine>
-    ensures { MatchOption result (leads_line node text.now ≡ None) (λ x. leads_line node text.now ≡ Some x) }
-{
-    let term = read_whole_number(text)?;
-    Some(OutLine::Leads { node, term })
-}
-
-#[tactic(auto, unfolding(khepri_types::specs::ReadingOut::follows_line))]
-fn read_follows_line(node: u8, text: &[u8]) -> Option<OutLine>
-    ensures { MatchOption result (follows_line node text.now ≡ None) (λ x. follows_line node text.now ≡ Some x) }
-{
-    let term = read_whole_number(text)?;
-    Some(OutLine::Follows { node, term })
-}
-
-#[tactic(auto, unfolding(khepri_types::specs::ReadingOut::stopped_line))]
-fn read_stopped_line(node: u8, text: &[u8]) -> Option<OutLine>
-    ensures { MatchOption result (stopped_line node text.now ≡ None) (λ x. stopped_line node text.now ≡ Some x) }
-{
-    let cause = read_stop(text)?;
-    Some(OutLine::Stopped { node, cause })
-}
-
 // What is said of a node.
-#[tactic(auto, unfolding(khepri_types::specs::ReadingOut::node_news))]
+#[tactic(auto, unfolding(khepri_types::specs::ReadingOut::node_news, khepri_types::specs::ReadingOut::leads_line, khepri_types::specs::ReadingOut::follows_line, khepri_types::specs::ReadingOut::stopped_line))]
 fn read_news(node: u8, text: &[u8]) -> Option<OutLine>
     ensures { MatchOption result (node_news node text.now ≡ None) (λ x. node_news node text.now ≡ Some x) }
 {
     if let Some(rest) = text.strip_prefix(b"leads ") {
-        return read_leads_line(node, rest);
+        let term = read_whole_number(rest)?;
+        return Some(OutLine::Leads { node, term });
     }
     if let Some(rest) = text.strip_prefix(b"follows ") {
-        return read_follows_line(node, rest);
+        let term = read_whole_number(rest)?;
+        return Some(OutLine::Follows { node, term });
     }
     if let Some(rest) = text.strip_prefix(b"stopped ") {
-        return read_stopped_line(node, rest);
+        let cause = read_stop(rest)?;
+        return Some(OutLine::Stopped { node, cause });
     }
     if is_word(text, b"started") {
         return Some(OutLine::Started { node });
@@ -359,22 +332,22 @@ fn match_out(alloc: Global, text: &[u8]) -> Result<OutLine, TextFault>
     ensures value { IfOk result (λ line. out_at text.now ≡ Some line) }
     ensures bad { result ≡ Err TextFault.Bad → out_at text.now ≡ None }
 {
-    if let Some(rest) = text.strip_prefix(b"# ") {
+    if let Some(rest) = strip(text, b"# ") {
         return read_entry_line(alloc, rest);
     }
-    if let Some(rest) = text.strip_prefix(b"= ") {
+    if let Some(rest) = strip(text, b"= ") {
         return read_reply_line(alloc, rest);
     }
-    if let Some(rest) = text.strip_prefix(b"- ") {
+    if let Some(rest) = strip(text, b"- ") {
         return read_end_line(rest).ok_or(TextFault::Bad);
     }
-    if let Some(rest) = text.strip_prefix(b"? ") {
+    if let Some(rest) = strip(text, b"? ") {
         return read_pending_line(rest).ok_or(TextFault::Bad);
     }
-    if let Some(rest) = text.strip_prefix(b"* ") {
+    if let Some(rest) = strip(text, b"* ") {
         return read_rows_line(rest).ok_or(TextFault::Bad);
     }
-    if let Some(rest) = text.strip_prefix(b"! ") {
+    if let Some(rest) = strip(text, b"! ") {
         return read_node_line(rest).ok_or(TextFault::Bad);
     }
     Err(TextFault::Bad)

@@ -9,7 +9,8 @@ use crate::command::{append_path, read_whole_path};
 use crate::payload::read_whole_payload;
 use crate::shown::{append_content, append_shown_nodes, read_nodes};
 use crate::words::{
-    append_number, append_numbers, append_word, is_word, read_number_before, read_whole_number,
+    append_number, append_numbers, append_word, is_word, read_number_before, read_three,
+    read_whole_number, strip,
 };
 use khepri_terms::TextFault;
 use khepri_types::{Reply, ShownNodes};
@@ -73,18 +74,12 @@ fn read_changed(text: &[u8]) -> Option<Reply>
 }
 
 // Behind `node `.
-#[tactic(auto, unfolding(khepri_types::specs::ReadingOut::node_at))]
+#[tactic(auto, using(crate::proofs::Ends::node_read, crate::proofs::Ends::node_odd, crate::proofs::Ends::node_short))]
 fn read_node(alloc: Global, text: &[u8]) -> Result<Reply, TextFault>
     ensures value { IfOk result (λ x. node_at text.now ≡ Some x) }
     ensures bad { result ≡ Err TextFault.Bad → node_at text.now ≡ None }
 {
-    let Some((pv, rest)) = read_number_before(text, b" ") else {
-        return Err(TextFault::Bad);
-    };
-    let Some((cv, rest)) = read_number_before(rest, b" ") else {
-        return Err(TextFault::Bad);
-    };
-    let Some((kids, rest)) = read_number_before(rest, b" ") else {
+    let Some((pv, cv, kids, rest)) = read_three(text) else {
         return Err(TextFault::Bad);
     };
     let payload = read_whole_payload(alloc, rest)?;
@@ -151,16 +146,16 @@ pub(crate) fn read_reply(alloc: Global, text: &[u8]) -> Result<Reply, TextFault>
     ensures value { IfOk result (λ x. spelled_reply text.now ≡ Some x) }
     ensures bad { result ≡ Err TextFault.Bad → spelled_reply text.now ≡ None }
 {
-    if let Some(rest) = text.strip_prefix(b"ok ") {
+    if let Some(rest) = strip(text, b"ok ") {
         return read_changed(rest).ok_or(TextFault::Bad);
     }
-    if let Some(rest) = text.strip_prefix(b"node ") {
+    if let Some(rest) = strip(text, b"node ") {
         return read_node(alloc, rest);
     }
-    if let Some(rest) = text.strip_prefix(b"nodes ") {
+    if let Some(rest) = strip(text, b"nodes ") {
         return read_nodes(alloc, rest);
     }
-    if let Some(rest) = text.strip_prefix(b"count ") {
+    if let Some(rest) = strip(text, b"count ") {
         return read_count(rest).ok_or(TextFault::Bad);
     }
     read_no(alloc, text)

@@ -9,7 +9,7 @@ ghost use Rattle.line_text.specs.Commands.{shown_content};
 
 use crate::atom::read_mark;
 use crate::payload::{append_payload, read_payload};
-use crate::words::{append_number, append_word, read_number_before};
+use crate::words::{append_number, append_word, read_three};
 use khepri_terms::numbers::read_number;
 use khepri_terms::{Path, TextFault};
 use khepri_types::limits::MAX_NUMBER;
@@ -128,13 +128,7 @@ fn read_content(alloc: Global, path: Path, text: &[u8]) -> Result<(ShownNode, &[
     ensures value { IfOk result (λ x. shown_content path text.now ≡ Some (x.0, x.1.now)) }
     ensures bad { result ≡ Err TextFault.Bad → shown_content path text.now ≡ None }
 {
-    let Some((pv, rest)) = read_number_before(text, b" ") else {
-        return Err(TextFault::Bad);
-    };
-    let Some((cv, rest)) = read_number_before(rest, b" ") else {
-        return Err(TextFault::Bad);
-    };
-    let Some((kids, rest)) = read_number_before(rest, b" ") else {
+    let Some((pv, cv, kids, rest)) = read_three(text) else {
         return Err(TextFault::Bad);
     };
     let (payload, rest) = read_payload(alloc, rest)?;

@@ -6,6 +6,7 @@ ghost use Rattle.khepri_terms.specs.Paths.{path_text};
 ghost use Rattle.khepri_types.specs.ConditionTexts.{condition_text};
 ghost use Rattle.khepri_types.specs.Texts.{watch_text, watching_text};
 ghost use Rattle.khepri_types.specs.Reading.{watch_at, whole_watches, spelled_watching};
+ghost use Rattle.line_text.specs.Commands.{asked_at};
 
 use crate::atom::read_mark;
 use crate::condition::{append_condition, match_condition};
@@ -114,8 +115,20 @@ fn read_watches(alloc: Global, text: &[u8]) -> Result<(Vec<Watch>, &[u8]), Alloc
     Ok((watches, rest))
 }
 
+/// The path and the condition at the front, and what is after them.
+#[tactic(auto, unfolding(crate::specs::Commands::asked_at))]
+pub(crate) fn read_asked(alloc: Global, text: &[u8]) -> Result<(Path, Condition, &[u8]), TextFault>
+    ensures value { IfOk result (λ x. asked_at text.now ≡ Some (x.0, x.1, x.2.now)) }
+    ensures bad { result ≡ Err TextFault.Bad → asked_at text.now ≡ None }
+{
+    let (path, rest) = Path::read(alloc, text)?;
+    let rest = read_mark(rest, b' ')?;
+    let (cond, rest) = match_condition(alloc, rest)?;
+    Ok((path, cond, rest))
+}
+
 // The watch at the front, and what is after it.
-#[tactic(auto, unfolding(khepri_types::specs::Reading::watch_at))]
+#[tactic(auto, unfolding(khepri_types::specs::Reading::watch_at), using(crate::proofs::Ends::watch_read, crate::proofs::Ends::watch_unread))]
 fn read_watch(alloc: Global, text: &[u8]) -> Result<(Watch, &[u8]), TextFault>
     ensures value { IfOk result (λ x. watch_at text.now ≡ Some (x.0, x.1.now)) }
     ensures bad { result ≡ Err TextFault.Bad → watch_at text.now ≡ None }
@@ -123,8 +136,6 @@ fn read_watch(alloc: Global, text: &[u8]) -> Result<(Watch, &[u8]), TextFault>
     let Some(rest) = after(text, b" while ") else {
         return Err(TextFault::Bad);
     };
-    let (target, rest) = Path::read(alloc, rest)?;
-    let rest = read_mark(rest, b' ')?;
-    let (cond, rest) = match_condition(alloc, rest)?;
+    let (target, cond, rest) = read_asked(alloc, rest)?;
     Ok((Watch { target, cond }, rest))
 }

@@ -3,6 +3,7 @@ ghost use Rattle.std.specs.Prelude.{◌≡◌, ◌++◌, ◌≤◌, true, false,
 ghost use Rattle.std.specs.Fmt.{decimal};
 ghost use Rattle.khepri_types.specs.Reading.{begins, is_word};
 ghost use Rattle.khepri_types.specs.ReadingOut.{after_word, number_before, spelled_number};
+ghost use Rattle.line_text.specs.Numbers.{three_before};
 
 use itoa::Buffer;
 use khepri_terms::numbers::read_number;
@@ -72,6 +73,17 @@ pub(crate) fn read_number_before<'a>(text: &'a [u8], word: &[u8]) -> Option<(u64
     let (number, rest) = read_number(text, MAX_NUMBER)?;
     let rest = after(rest, word)?;
     Some((number, rest))
+}
+
+/// The three numbers at the front that a space follows each, and what is after them.
+#[tactic(auto, unfolding(crate::specs::Numbers::three_before))]
+pub(crate) fn read_three(text: &[u8]) -> Option<(u64, u64, u64, &[u8])>
+    ensures { MatchOption result (three_before text.now ≡ None) (λ x. three_before text.now ≡ Some (x.0, x.1, x.2, x.3.now)) }
+{
+    let (first, rest) = read_number_before(text, b" ")?;
+    let (second, rest) = read_number_before(rest, b" ")?;
+    let (third, rest) = read_number_before(rest, b" ")?;
+    Some((first, second, third, rest))
 }
 
 /// The number that the whole text spells.

@@ -11,7 +11,7 @@ ghost use Rattle.pattern_match.specs.Steps.{takes_node, part_next, has_next};
 use khepri_types::{NodeView, Pattern, PatternPart};
 
 /// For each number of parts, whether that many of the first parts of a pattern take all the names so far. Bit i stands for i parts.
-#[derive(Clone, Copy, Debug, Default, PartialEq, Eq, Drop)]
+#[derive(Clone, Copy, Default, Drop)]
 pub struct Mask {
     bits: u64,
 }

@@ -1,6 +1,7 @@
 -- Which paths are touched.
-use Rattle.std.proofs.Common.{◌≡◌, ◌⊎◌, inl, inr, ℕ, zero, suc, ◌+◌, ◌<◌, ◌≤◌, Bool, true, false, cond, not, List, [], ◌∷◌, length, take, get_or, refl, sym, ap, subst, ◌∙◌, arith, Option, Some, None, Less, Equal, Greater, ◌&&◌, ◌||◌}
-use Rattle.std.specs.Prelude.{IsTrue, IfSome, is_some, slice_get, ltb, ◌==◌}
+use Rattle.std.proofs.Common.{◌≡◌, ◌⊎◌, inl, inr, ℕ, zero, suc, ◌+◌, ◌<◌, ◌≤◌, Bool, true, false, cond, not, List, [], ◌∷◌, length, take, get_or, refl, sym, ap, subst, ◌∙◌, arith, Option, Some, None, Ok, Err, Less, Equal, Greater, ◌&&◌, ◌||◌}
+use Rattle.std.specs.declared.result.Result.{Result}
+use Rattle.std.specs.Prelude.{IsTrue, OnOk, OnErr, IfSome, is_some, slice_get, ltb, ◌==◌}
 use Rattle.std.specs.Option.{option_map, MatchOption}
 use Rattle.std.specs.List.{list_any}
 use Rattle.std.specs.Ordering.{is_eq, is_lt, is_gt}
@@ -12,6 +13,7 @@ use Rattle.std.specs.Cmp.{tied_itself}
 use Rattle.std.specs.FinMap.{get, find, put, from_sorted, entries}
 use Rattle.std.specs.FinMap.{insert as insert_node}
 use Rattle.std.proofs.lemmas.List.{take-take, length-take-le}
+use Rattle.std.proofs.lemmas.Result.{on_ok_weaker}
 use Rattle.std.proofs.lemmas.List.Folds.{list_any_more}
 use Rattle.khepri_terms.specs.Terms.{NameText}
 use Rattle.khepri_terms.specs.Order.{path_cmp}
@@ -35,7 +37,7 @@ use Rattle.tree_nodes.specs.Cuts.{going}
 use Rattle.tree_nodes.specs.Drafts.{is_touched, IsTouched, StaysTouched, IsCovered, Touches}
 use Rattle.tree_nodes.specs.Kept.{children}
 use Rattle.tree_nodes.specs.Next.{IsNext}
-use Rattle.tree_nodes.specs.Notes.{rises, NotesWay, IsOff, IsPartOf}
+use Rattle.tree_nodes.specs.Notes.{rises, NotesChild, NotesWay, IsOff, IsPartOf}
 use Rattle.tree_nodes.proofs.Slots.{Entry, IsSorted, head_sorted, tail_sorted, turned}
 use Rattle.tree_nodes.proofs.Kids.{below_found}
 use Rattle.tree_nodes.proofs.Trees.{tree_get, tree_put, tree_entries, written-same}
@@ -387,10 +389,35 @@ covered-on B T U old new was stays now q off = was q (untouched old new q stays 
 pub covered-set : (B T V U : Tree) (old new : List (List NameText)) → IsCovered B T old → Touches T V old new → IsPartOf T V U → IsCovered B U new
 covered-set B T V U old new was t part = covered-on B T U old new was t.stays (λ q off. part q (t.covers q off))
 
+-- what was noted of a step before it was taken
+pub touches-ok : {X E : Type 0} (r : Result X E) (T V U : Tree) (old new : List (List NameText)) → Touches T V old new → OnOk r (U ≡ V) → OnOk r (Touches T U old new)
+touches-ok r T V U old new t same = on_ok_weaker r (λ (e : U ≡ V). subst (λ (W : Tree). Touches T W old new) (sym e) t) same
+
+-- the node of a place was noted, where a child changes it
+pub notes-child : {X E : Type 0} (r : Result X E) (p : List NameText) (es : List Entry) (n : Node) (e : Entry) (b : Bool) (old new : List (List NameText)) → find path_cmp p es ≡ Some n → e ≡ (p, n) → b ≡ rises e.1 → OnOk r ((q : List NameText) → is_touched new q ≡ ((b && is_eq (path_cmp e.0 q)) || is_touched old q)) → OnOk r (NotesChild p es old new)
+notes-child r p es n e b old new found here told noted =
+    let asked : b ≡ rises n = told ∙ ap (λ (y : Entry). rises y.1) here in
+    on_ok_weaker r (λ (h : (q : List NameText) → is_touched new q ≡ ((b && is_eq (path_cmp e.0 q)) || is_touched old q)). (n, found, λ q. h q ∙ (λ j. (asked j && is_eq (path_cmp (here j).0 q)) || is_touched old q))) noted
+
+-- what was touched stays so, whether or not a path was noted
+pub noted-stays : {X E : Type 0} (r : Result X E) (b : Bool) (p : List NameText) (old new : List (List NameText)) → OnOk r (Adds b p old new) → OnErr r (new ≡ old) → StaysTouched old new
+noted-stays (Ok x) b p old new noted kept = adds-stays b p old new noted
+noted-stays (Err e) b p old new noted kept = λ q. subst (λ (ks : List (List NameText)). IsTouched ks q) (sym kept)
+
+-- what holds already holds where a call answers
+pub at-ok : {X E A : Type 0} (r : Result X E) → A → OnOk r A
+at-ok (Ok x) a = a
+at-ok (Err e) a = tt
+
 -- after other watches were given
 pub covered-watches : (B T : Tree) (p : List NameText) (ws : List Watch) (o : Option Node) (old new : List (List NameText)) → IsCovered B T old → Adds true p old new → IsCovered B (given_watches T p ws o) new
 covered-watches B T p ws o old new was f =
     covered-on B T (given_watches T p ws o) old new was (adds-stays true p old new f) (λ q off. watched-other T p ws o q (λ e. absurd (cc (left_out true p old new q f off (sym e)))))
+
+-- after other watches were to be given
+pub covered-given : {X E : Type 0} (r : Result X E) (B T U : Tree) (p : List NameText) (ws : List Watch) (o : Option Node) (old new : List (List NameText)) → IsCovered B T old → Adds true p old new → OnOk r (U ≡ given_watches T p ws o) → OnErr r (U ≡ T) → IsCovered B U new
+covered-given (Ok x) B T U p ws o old new was f same kept = subst (λ (W : Tree). IsCovered B W new) (sym same) (covered-watches B T p ws o old new was f)
+covered-given (Err e) B T U p ws o old new was f same kept = subst (λ (W : Tree). IsCovered B W new) (sym kept) (covered-on B T T old new was (adds-stays true p old new f) (λ q off. refl))
 
 -- ---- which comes next
 

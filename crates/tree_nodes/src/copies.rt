@@ -36,13 +36,11 @@ fn copy_node(
 ) -> Result<Node, AllocError>
     ensures { IfOk result (λ n. n ≡ record { payload = payload.now; pv = pv; cv = cv; watches = watches.now }) }
 {
-    let watches = copy_watches(alloc, watches)?;
-    let payload = payload.copy()?;
     Ok(Node {
-        payload,
+        payload: payload.copy()?,
+        watches: copy_watches(alloc, watches)?,
         pv,
         cv,
-        watches,
     })
 }
 
@@ -51,8 +49,9 @@ fn copy_entry(alloc: Global, entry: &(Path, Node)) -> Result<(Path, Node), Alloc
 {
     let node = &entry.1;
     let watches = node.watches.as_slice();
+    let path = entry.0.copy()?;
     let copy = copy_node(alloc, &node.payload, node.pv, node.cv, watches)?;
-    Ok((entry.0.copy()?, copy))
+    Ok((path, copy))
 }
 
 pub(crate) fn copy_nodes(
@@ -63,7 +62,7 @@ pub(crate) fn copy_nodes(
 {
     let mut all = Vec::with_capacity(alloc, nodes.len())?;
     for entry in nodes {
-        all.push(copy_entry(alloc, entry)?)?;
+        all.push_reserved(copy_entry(alloc, entry)?);
     }
     Ok(all)
 }
@@ -72,8 +71,9 @@ fn part_entry(alloc: Global, part: &NodePart) -> Result<(Path, Node), AllocError
     ensures { IfOk result (λ e. e ≡ entry_of part.now) }
 {
     let watches = part.watches.as_slice();
+    let path = part.path.copy()?;
     let copy = copy_node(alloc, &part.payload, part.pv, part.cv, watches)?;
-    Ok((part.path.copy()?, copy))
+    Ok((path, copy))
 }
 
 // The paths and nodes of these parts.
@@ -85,7 +85,7 @@ pub(crate) fn part_entries(
 {
     let mut all = Vec::with_capacity(alloc, parts.len())?;
     for part in parts {
-        all.push(part_entry(alloc, part)?)?;
+        all.push_reserved(part_entry(alloc, part)?);
     }
     Ok(all)
 }

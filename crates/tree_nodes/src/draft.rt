@@ -160,8 +160,7 @@ impl<'a> Draft<'a> {
         steps.add(path.len() as u64);
         steps.tick();
         self.store.note_set(path, payload, &mut self.touched)?;
-        let version = self.store.set(path, payload)?;
-        Ok(version)
+        self.store.set(path, payload)
     }
 
     /// Drops the nodes at these paths and all below them, in one round; answers how many they were. The steps are one for each path
@@ -195,8 +194,7 @@ impl<'a> Draft<'a> {
         ensures stays { StaysTouched self.old.touched self.new.touched }
     {
         note(&mut self.touched, path, true)?;
-        self.store.set_watches(path, watches)?;
-        Ok(())
+        self.store.set_watches(path, watches)
     }
 
     /// What the draft came to, for a tree to absorb that equals the one under it.

@@ -84,8 +84,8 @@ impl Store {
     {
         Ok(Store {
             alloc: self.alloc,
-            nodes: copy_nodes(self.alloc, self.nodes.as_slice())?,
             kids: Vec::from_slice(self.alloc, self.kids.as_slice())?,
+            nodes: copy_nodes(self.alloc, self.nodes.as_slice())?,
             bytes: self.bytes,
         })
     }

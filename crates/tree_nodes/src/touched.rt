@@ -140,8 +140,7 @@ impl Store {
     {
         let above = standing_front(self.nodes.as_slice(), path);
         self.note_child(path, above, touched)?;
-        note_way(touched, path, above)?;
-        Ok(())
+        note_way(touched, path, above)
     }
 
     // Notes the paths at which setting the payload changes a node.
@@ -157,10 +156,7 @@ impl Store {
     {
         match place(self.nodes.as_slice(), path) {
             None => self.note_growth(path, touched),
-            Some(at) => {
-                note(touched, path, !payload.is_same(&self.nodes[at].1.payload))?;
-                Ok(())
-            }
+            Some(at) => note(touched, path, !payload.is_same(&self.nodes[at].1.payload)),
         }
     }
 }

@@ -57,7 +57,34 @@ fn source(
     })
 }
 
-// What at most so many calls answer: a line and LF, or a word in brackets.
+fn push_line(all: &mut Vec<u8>, line: &[u8]) -> Result<bool, AllocError> {
+    all.extend_from_slice(line)?;
+    all.push(b'\n')?;
+    Ok(true)
+}
+
+fn push_word(all: &mut Vec<u8>, word: &[u8], is_last: bool) -> Result<bool, AllocError> {
+    all.extend_from_slice(word)?;
+    Ok(!is_last)
+}
+
+// Appends what a call answers, a line and LF, or a word in brackets, and tells whether there is more to ask for.
+fn push_answer(all: &mut Vec<u8>, answer: &Result<Next, LineFault>) -> Result<bool, AllocError> {
+    match answer {
+        Ok(Next::Line(line)) => push_line(all, line.as_slice()),
+        Ok(Next::TooLong) => push_word(all, b"(too long)", false),
+        Ok(Next::End) => push_word(all, b"(end)", true),
+        Err(LineFault::ReadFault) => push_word(all, b"(fault)", false),
+        Err(LineFault::InputLong) => push_word(all, b"(long)", true),
+        Err(LineFault::NoMemory) => Err(AllocError),
+    }
+}
+
+fn push_next(all: &mut Vec<u8>, lines: &mut Lines, source: &mut Feed) -> Result<bool, AllocError> {
+    push_answer(all, &lines.next(source))
+}
+
+// What at most so many calls answer.
 fn answers_of(
     alloc: Global,
     limit: usize,
@@ -68,27 +95,14 @@ fn answers_of(
     let mut lines = Lines::new(alloc, limit, budget)?;
     let mut all = Vec::new(alloc);
     for _ in 0..calls {
-        match lines.next(source) {
-            Ok(Next::Line(line)) => {
-                all.extend_from_slice(line.as_slice())?;
-                all.push(b'\n')?;
-            }
-            Ok(Next::TooLong) => all.extend_from_slice(b"(too long)")?,
-            Ok(Next::End) => {
-                all.extend_from_slice(b"(end)")?;
-                return Ok(all);
-            }
-            Err(LineFault::ReadFault) => all.extend_from_slice(b"(fault)")?,
-            Err(LineFault::InputLong) => {
-                all.extend_from_slice(b"(long)")?;
-                return Ok(all);
-            }
-            Err(LineFault::NoMemory) => return Err(AllocError),
+        if !push_next(&mut all, &mut lines, source)? {
+            break;
         }
     }
     Ok(all)
 }
 
+#[derive(Clone, Copy)]
 struct Case {
     limit: usize,
     budget: u64,
@@ -96,7 +110,7 @@ struct Case {
     answers: &'static str,
 }
 
-const CASES: [Case; 18] = [
+static CASES: [Case; 18] = [
     Case {
         limit: 9,
         budget: 99,
@@ -207,16 +221,25 @@ const CASES: [Case; 18] = [
     },
 ];
 
-fn is_cut(alloc: Global, case: &Case, is_slow: bool) -> Result<bool, AllocError> {
-    let mut source = source(alloc, case.input.as_bytes(), is_slow, 0)?;
+fn is_cut(
+    alloc: Global,
+    case: &Case,
+    is_slow: bool,
+    failing_take: u64,
+) -> Result<bool, AllocError> {
+    let mut source = source(alloc, case.input.as_bytes(), is_slow, failing_take)?;
     let answers = answers_of(alloc, case.limit, case.budget, 12, &mut source)?;
     Ok(answers.as_slice() == case.answers.as_bytes())
 }
 
+fn is_cut_alike(alloc: Global, case: &Case) -> Result<bool, AllocError> {
+    Ok(is_cut(alloc, case, false, 0)? && is_cut(alloc, case, true, 0)?)
+}
+
 // The first case that is cut otherwise, from one piece or byte by byte.
-fn first_wrong_case(alloc: Global, is_slow: bool) -> Result<Option<usize>, AllocError> {
-    for (i, case) in CASES.iter().enumerate() {
-        if !is_cut(alloc, case, is_slow)? {
+fn first_wrong_case(alloc: Global, cases: &[Case]) -> Result<Option<usize>, AllocError> {
+    for (i, case) in cases.iter().enumerate() {
+        if !is_cut_alike(alloc, case)? {
             return Ok(Some(i));
         }
     }
@@ -225,14 +248,12 @@ fn first_wrong_case(alloc: Global, is_slow: bool) -> Result<Option<usize>, Alloc
 
 #[test]
 fn lines_are_cut_alike_in_whatever_pieces(rt: HostRuntime) -> Result<(), Fail> {
-    let alloc = rt.alloc();
-    assert_eq!(rt; first_wrong_case(alloc, false)?, None);
-    assert_eq!(rt; first_wrong_case(alloc, true)?, None);
+    assert_eq!(rt; first_wrong_case(rt.alloc(), &CASES)?, None);
     Ok(())
 }
 
 // What is answered where the first, the second and each later take fails.
-const FAULTS: [&str; 10] = [
+static FAULTS: [&str; 10] = [
     "(fault)ab\n(too long)f\n(end)",
     "(fault)ab\n(too long)f\n(end)",
     "(fault)ab\n(too long)f\n(end)",
@@ -245,15 +266,21 @@ const FAULTS: [&str; 10] = [
     "ab\n(too long)(fault)f\n(end)",
 ];
 
-// The first take that is told otherwise where it fails, counted from 1.
-fn first_wrong_take(alloc: Global) -> Result<Option<u64>, AllocError> {
-    let mut call: u64 = 0;
-    for answers in FAULTS {
-        call = call.saturating_add(1);
-        let mut source = source(alloc, b"ab\ncdef\nf", true, call)?;
-        let all = answers_of(alloc, 3, 99, 12, &mut source)?;
-        if all.as_slice() != answers.as_bytes() {
-            return Ok(Some(call));
+fn is_told(alloc: Global, failing_take: u64, answers: &'static str) -> Result<bool, AllocError> {
+    let case = Case {
+        limit: 3,
+        budget: 99,
+        input: "ab\ncdef\nf",
+        answers,
+    };
+    is_cut(alloc, &case, true, failing_take)
+}
+
+// The first take that is told otherwise where it fails.
+fn first_wrong_take(alloc: Global, faults: &[&'static str]) -> Result<Option<usize>, AllocError> {
+    for (i, answers) in faults.iter().enumerate() {
+        if !is_told(alloc, (i as u64).saturating_add(1), answers)? {
+            return Ok(Some(i));
         }
     }
     Ok(None)
@@ -262,7 +289,7 @@ fn first_wrong_take(alloc: Global) -> Result<Option<u64>, AllocError> {
 // Whichever take fails, the lines stay, and the fault stands where that take was made.
 #[test]
 fn each_take_fails_once(rt: HostRuntime) -> Result<(), Fail> {
-    assert_eq!(rt; first_wrong_take(rt.alloc())?, None);
+    assert_eq!(rt; first_wrong_take(rt.alloc(), &FAULTS)?, None);
     Ok(())
 }
 
@@ -275,25 +302,60 @@ fn is_put_before(alloc: Global, failing_put: u64, front: &[u8]) -> Result<bool, 
     Ok(is_failed && slow.sink.bytes() == front)
 }
 
-// Whether a sink whose third put fails takes what is put before and after it.
-fn is_put_around(alloc: Global) -> Result<bool, AllocError> {
-    let mut sink = MemSink::new(Vec::from_slice(alloc, b">")?, vec![in alloc; 3]?);
-    let is_first = put_line(&mut sink, b"abc").is_ok();
-    let is_failed = put_all(&mut sink, b"d\ne\n").is_err();
-    let is_second = put_all(&mut sink, b"d\ne\n").is_ok();
-    let is_empty = put_line(&mut sink, b"").is_ok();
-    let is_written = sink.bytes() == b">abc\nd\ne\n\n".as_slice();
-    Ok(is_first && is_failed && is_second && is_empty && is_written)
+// What stands of a line and LF before the first, the second and each later put fails.
+static FRONTS: [&[u8]; 4] = [b"", b"a", b"ab", b"abc"];
+
+// The first put that leaves something else where it fails.
+fn first_wrong_put(alloc: Global, fronts: &[&[u8]]) -> Result<Option<usize>, AllocError> {
+    for (i, front) in fronts.iter().enumerate() {
+        if !is_put_before(alloc, (i as u64).saturating_add(1), front)? {
+            return Ok(Some(i));
+        }
+    }
+    Ok(None)
 }
 
 #[test]
 fn each_put_fails_once(rt: HostRuntime) -> Result<(), Fail> {
-    let alloc = rt.alloc();
-    assert!(rt; is_put_before(alloc, 1, b"")?);
-    assert!(rt; is_put_before(alloc, 2, b"a")?);
-    assert!(rt; is_put_before(alloc, 3, b"ab")?);
-    assert!(rt; is_put_before(alloc, 4, b"abc")?);
-    assert!(rt; is_put_around(alloc)?);
+    assert_eq!(rt; first_wrong_put(rt.alloc(), &FRONTS)?, None);
+    Ok(())
+}
+
+// Whether of four puts the second fails.
+fn second_fails(sink: &mut MemSink) -> bool {
+    put_line(sink, b"abc").is_ok()
+        && put_all(sink, b"d\ne\n").is_err()
+        && put_all(sink, b"d\ne\n").is_ok()
+        && put_line(sink, b"").is_ok()
+}
+
+// Whether a sink whose third put fails takes what is put before and after it.
+fn is_put_around(alloc: Global) -> Result<bool, AllocError> {
+    let mut sink = MemSink::new(Vec::from_slice(alloc, b">")?, vec![in alloc; 3]?);
+    Ok(second_fails(&mut sink) && sink.bytes() == b">abc\nd\ne\n\n".as_slice())
+}
+
+#[test]
+fn puts_go_on_where_one_fails(rt: HostRuntime) -> Result<(), Fail> {
+    assert!(rt; is_put_around(rt.alloc())?);
+    Ok(())
+}
+
+fn push_long_line(alloc: Global, bytes: &mut Vec<u8>, ending: &str) -> Result<(), AllocError> {
+    let long = vec![in alloc; b'x'; 200_000]?;
+    bytes.extend_from_slice(long.as_slice())?;
+    bytes.extend_from_slice(ending.as_bytes())?;
+    Ok(())
+}
+
+fn push_numbered(
+    alloc: Global,
+    bytes: &mut Vec<u8>,
+    i: u64,
+    ending: &str,
+) -> Result<(), AllocError> {
+    let line = format!(in alloc; "@1 put /q/word {{a={i}}}{ending}")?;
+    bytes.extend_from_slice(line.as_bytes())?;
     Ok(())
 }
 
@@ -301,24 +363,31 @@ fn each_put_fails_once(rt: HostRuntime) -> Result<(), Fail> {
 fn many_lines(alloc: Global, ending: &str) -> Result<Vec<u8>, AllocError> {
     let mut bytes = Vec::new(alloc);
     for i in 0..100_000 {
-        let line = format!(in alloc; "@1 put /q/word {{a={i}}}{ending}")?;
-        bytes.extend_from_slice(line.as_bytes())?;
+        push_numbered(alloc, &mut bytes, i, ending)?;
     }
-    let long = vec![in alloc; b'x'; 200_000]?;
-    bytes.extend_from_slice(long.as_slice())?;
-    bytes.extend_from_slice(ending.as_bytes())?;
+    push_long_line(alloc, &mut bytes, ending)?;
     Ok(bytes)
+}
+
+fn answers_to_many(alloc: Global) -> Result<Vec<u8>, AllocError> {
+    let bytes = many_lines(alloc, "\r\n")?;
+    let mut source = source(alloc, bytes.as_slice(), false, 0)?;
+    answers_of(alloc, 200_000, 1 << 40, 200_000, &mut source)
+}
+
+fn many_answers(alloc: Global) -> Result<Vec<u8>, AllocError> {
+    let mut answers = many_lines(alloc, "\n")?;
+    answers.extend_from_slice(b"(end)")?;
+    Ok(answers)
+}
+
+fn are_many_cut(alloc: Global) -> Result<bool, AllocError> {
+    Ok(answers_to_many(alloc)?.as_slice() == many_answers(alloc)?.as_slice())
 }
 
 // Many lines in pieces that end anywhere in a line, and one line over several pieces.
 #[test]
 fn many_lines_over_many_pieces(rt: HostRuntime) -> Result<(), Fail> {
-    let alloc = rt.alloc();
-    let bytes = many_lines(alloc, "\r\n")?;
-    let mut source = source(alloc, bytes.as_slice(), false, 0)?;
-    let answers = answers_of(alloc, 200_000, 1 << 40, 200_000, &mut source)?;
-    let mut expected = many_lines(alloc, "\n")?;
-    expected.extend_from_slice(b"(end)")?;
-    assert!(rt; answers.as_slice() == expected.as_slice());
+    assert!(rt; are_many_cut(rt.alloc())?);
     Ok(())
 }

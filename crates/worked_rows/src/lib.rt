@@ -5,8 +5,12 @@
 #[cfg(test)]
 mod cut_lines;
 #[cfg(test)]
+mod firsts;
+#[cfg(test)]
 mod lines;
 #[cfg(test)]
 mod logs;
+#[cfg(test)]
+mod nodes;
 #[cfg(test)]
 mod terms;

@@ -1,3 +1,4 @@
+use crate::firsts::first_false;
 use khepri_terms::TextFault;
 use khepri_types::{Command, Line, OutLine, Payload, Reply, ShownNodes};
 use line_text::{print_command, print_out, print_reply, read_command, read_line, read_out};
@@ -5,7 +6,7 @@ use std::alloc::{AllocError, Global};
 use std::test::Fail;
 
 // Input lines.
-const LINES: [&str; 30] = [
+static LINES: [&str; 30] = [
     "@1 put / -",
     "@9 put / {}",
     "@1 put /a/:b/%2E {a=1,b='x%20y}",
@@ -39,7 +40,7 @@ const LINES: [&str; 30] = [
 ];
 
 // What is no input line.
-const NO_LINES: [&str; 58] = [
+static NO_LINES: [&str; 58] = [
     "",
     "@",
     "@1",
@@ -101,7 +102,7 @@ const NO_LINES: [&str; 58] = [
 ];
 
 // Output lines.
-const OUT_LINES: [&str; 47] = [
+static OUT_LINES: [&str; 47] = [
     "# 1 @1 put /a {}",
     "# 2 @0 put /a -",
     "# 3 @0 noop",
@@ -152,7 +153,7 @@ const OUT_LINES: [&str; 47] = [
 ];
 
 // What is no output line.
-const NO_OUT_LINES: [&str; 54] = [
+static NO_OUT_LINES: [&str; 54] = [
     "",
     "#",
     "# ",
@@ -209,54 +210,38 @@ const NO_OUT_LINES: [&str; 54] = [
     "= 1 2 no while /a /b",
 ];
 
-// What is read of a text, spelled again, or `!` where it is refused.
-fn refused(alloc: Global, fault: TextFault) -> Result<Vec<u8>, AllocError> {
-    match fault {
-        TextFault::Bad => Vec::from_slice(alloc, b"!"),
-        TextFault::NoMemory => Err(AllocError),
-    }
-}
-
-fn command_text(alloc: Global, cmd: &Command) -> Result<Vec<u8>, AllocError> {
-    let mut out = Vec::new(alloc);
+fn command_text(alloc: Global, front: &[u8], cmd: &Command) -> Result<Vec<u8>, TextFault> {
+    let mut out = Vec::from_slice(alloc, front)?;
     print_command(cmd, &mut out)?;
     Ok(out)
 }
 
-fn asked_text(alloc: Global, node: u8, cmd: &Command) -> Result<Vec<u8>, AllocError> {
-    let mut out = Vec::new(alloc);
-    out.push(b'@')?;
-    out.push(b'0'.saturating_add(node))?;
-    out.push(b' ')?;
-    print_command(cmd, &mut out)?;
-    Ok(out)
+// The text of a command behind a front, for each form: to drop a command is what a proof takes long for.
+fn spell(alloc: Global, front: &[u8], cmd: Command) -> Result<Vec<u8>, TextFault> {
+    command_text(alloc, front, &cmd)
 }
 
-fn out_text(alloc: Global, line: &OutLine) -> Result<Vec<u8>, AllocError> {
+fn out_text(alloc: Global, line: &OutLine) -> Result<Vec<u8>, TextFault> {
     let mut out = Vec::new(alloc);
     print_out(line, &mut out)?;
     Ok(out)
 }
 
-fn line_again(alloc: Global, text: &[u8]) -> Result<Vec<u8>, AllocError> {
-    match read_line(alloc, text) {
-        Ok(Line::Command { node, cmd }) => asked_text(alloc, node, &cmd),
-        Err(fault) => refused(alloc, fault),
-    }
+fn spell_out(alloc: Global, line: OutLine) -> Result<Vec<u8>, TextFault> {
+    out_text(alloc, &line)
 }
 
-fn command_again(alloc: Global, text: &[u8]) -> Result<Vec<u8>, AllocError> {
-    match read_command(alloc, text) {
-        Ok(cmd) => command_text(alloc, &cmd),
-        Err(fault) => refused(alloc, fault),
-    }
+fn line_again(alloc: Global, text: &[u8]) -> Result<Vec<u8>, TextFault> {
+    let Line::Command { node, cmd } = read_line(alloc, text)?;
+    spell(alloc, &[b'@', b'0'.saturating_add(node), b' '], cmd)
 }
 
-fn out_again(alloc: Global, text: &[u8]) -> Result<Vec<u8>, AllocError> {
-    match read_out(alloc, text) {
-        Ok(line) => out_text(alloc, &line),
-        Err(fault) => refused(alloc, fault),
-    }
+fn command_again(alloc: Global, text: &[u8]) -> Result<Vec<u8>, TextFault> {
+    spell(alloc, b"", read_command(alloc, text)?)
+}
+
+fn out_again(alloc: Global, text: &[u8]) -> Result<Vec<u8>, TextFault> {
+    spell_out(alloc, read_out(alloc, text)?)
 }
 
 // What a text is read as.
@@ -267,12 +252,29 @@ enum Form {
     Out,
 }
 
-fn again(alloc: Global, form: Form, text: &[u8]) -> Result<Vec<u8>, AllocError> {
+fn read_again(alloc: Global, form: Form, text: &[u8]) -> Result<Vec<u8>, TextFault> {
     match form {
         Form::Line => line_again(alloc, text),
         Form::Command => command_again(alloc, text),
         Form::Out => out_again(alloc, text),
     }
+}
+
+// What is read of a text, spelled again, or `!` where it is refused.
+fn again(alloc: Global, form: Form, text: &[u8]) -> Result<Vec<u8>, AllocError> {
+    match read_again(alloc, form, text) {
+        Ok(text) => Ok(text),
+        Err(TextFault::Bad) => Vec::from_slice(alloc, b"!"),
+        Err(TextFault::NoMemory) => Err(AllocError),
+    }
+}
+
+fn is_misread(alloc: Global, form: Form, text: &[u8]) -> Result<bool, AllocError> {
+    Ok(again(alloc, form, text)?.as_slice() != text)
+}
+
+fn is_read(alloc: Global, form: Form, text: &[u8]) -> Result<bool, AllocError> {
+    Ok(again(alloc, form, text)?.as_slice() != b"!".as_slice())
 }
 
 // The first text behind whose front of so many bytes is not read and spelled again.
@@ -283,8 +285,7 @@ fn first_misread(
     table: &[&str],
 ) -> Result<Option<usize>, AllocError> {
     for (i, text) in table.iter().enumerate() {
-        let text = text.as_bytes().get(front..).unwrap_or(b"".as_slice());
-        if again(alloc, form, text)?.as_slice() != text {
+        if is_misread(alloc, form, text.as_bytes().get(front..).unwrap_or(b""))? {
             return Ok(Some(i));
         }
     }
@@ -294,33 +295,63 @@ fn first_misread(
 // The first text that is not refused.
 fn first_read(alloc: Global, form: Form, table: &[&str]) -> Result<Option<usize>, AllocError> {
     for (i, text) in table.iter().enumerate() {
-        if again(alloc, form, text.as_bytes())?.as_slice() != b"!".as_slice() {
+        if is_read(alloc, form, text.as_bytes())? {
             return Ok(Some(i));
         }
     }
     Ok(None)
 }
 
+fn first_misread_line(alloc: Global) -> Result<Option<usize>, AllocError> {
+    first_misread(alloc, Form::Line, 0, &LINES)
+}
+
+fn first_misread_command(alloc: Global) -> Result<Option<usize>, AllocError> {
+    first_misread(alloc, Form::Command, 3, &LINES)
+}
+
+fn first_read_line(alloc: Global) -> Result<Option<usize>, AllocError> {
+    first_read(alloc, Form::Line, &NO_LINES)
+}
+
+fn first_misread_out(alloc: Global) -> Result<Option<usize>, AllocError> {
+    first_misread(alloc, Form::Out, 0, &OUT_LINES)
+}
+
+fn first_read_out(alloc: Global) -> Result<Option<usize>, AllocError> {
+    first_read(alloc, Form::Out, &NO_OUT_LINES)
+}
+
 #[test]
 fn lines_in(rt: HostRuntime) -> Result<(), Fail> {
     let alloc = rt.alloc();
-    assert_eq!(rt; first_misread(alloc, Form::Line, 0, &LINES)?, None);
-    assert_eq!(rt; first_misread(alloc, Form::Command, 3, &LINES)?, None);
-    assert_eq!(rt; first_read(alloc, Form::Line, &NO_LINES)?, None);
+    assert_eq!(rt; first_misread_line(alloc)?, None);
+    assert_eq!(rt; first_read_line(alloc)?, None);
     Ok(())
 }
 
-fn reply_text(alloc: Global, reply: &Reply) -> Result<Vec<u8>, AllocError> {
+#[test]
+fn commands_alone(rt: HostRuntime) -> Result<(), Fail> {
+    assert_eq!(rt; first_misread_command(rt.alloc())?, None);
+    Ok(())
+}
+
+#[test]
+fn lines_out(rt: HostRuntime) -> Result<(), Fail> {
+    let alloc = rt.alloc();
+    assert_eq!(rt; first_misread_out(alloc)?, None);
+    assert_eq!(rt; first_read_out(alloc)?, None);
+    Ok(())
+}
+
+fn is_text_of(alloc: Global, reply: &Reply, text: &str) -> Result<bool, AllocError> {
     let mut out = Vec::new(alloc);
     print_reply(reply, &mut out)?;
-    Ok(out)
+    Ok(out.as_slice() == text.as_bytes())
 }
 
 fn is_printed(alloc: Global, reply: Reply, text: &str) -> Result<bool, AllocError> {
-    match reply_text(alloc, &reply) {
-        Ok(out) => Ok(out.as_slice() == text.as_bytes()),
-        Err(fault) => Err(fault),
-    }
+    is_text_of(alloc, &reply, text)
 }
 
 fn node() -> Reply {
@@ -339,21 +370,18 @@ fn nodes(alloc: Global) -> Reply {
     }
 }
 
-#[test]
-fn lines_out(rt: HostRuntime) -> Result<(), Fail> {
-    let alloc = rt.alloc();
-    assert_eq!(rt; first_misread(alloc, Form::Out, 0, &OUT_LINES)?, None);
-    assert_eq!(rt; first_read(alloc, Form::Out, &NO_OUT_LINES)?, None);
-    Ok(())
+// The first reply that is printed otherwise.
+fn first_misprinted(alloc: Global) -> Result<Option<usize>, AllocError> {
+    Ok(first_false(&[
+        is_printed(alloc, Reply::Changed { count: 2, gone: 3 }, "ok 2 3")?,
+        is_printed(alloc, node(), "node 1 2 3 -")?,
+        is_printed(alloc, nodes(alloc), "nodes 5")?,
+        is_printed(alloc, Reply::NoFull, "no full")?,
+    ]))
 }
 
 #[test]
 fn replies(rt: HostRuntime) -> Result<(), Fail> {
-    let alloc = rt.alloc();
-    let changed = Reply::Changed { count: 2, gone: 3 };
-    assert!(rt; is_printed(alloc, changed, "ok 2 3")?);
-    assert!(rt; is_printed(alloc, node(), "node 1 2 3 -")?);
-    assert!(rt; is_printed(alloc, nodes(alloc), "nodes 5")?);
-    assert!(rt; is_printed(alloc, Reply::NoFull, "no full")?);
+    assert_eq!(rt; first_misprinted(rt.alloc())?, None);
     Ok(())
 }

@@ -1,3 +1,4 @@
+use crate::firsts::first_false;
 use khepri_terms::{Bytes, Kind, Name, NameFault, Path, Rec, RecFault, Scalar, TextFault};
 use std::alloc::{AllocError, Global};
 use std::cmp::Ordering;
@@ -5,7 +6,7 @@ use std::collections::HashSet;
 use std::test::Fail;
 
 // A text, and the longest name that begins there, or `!` where none does.
-const NAMES: [(&str, &str); 10] = [
+static NAMES: [(&str, &str); 10] = [
     ("a", "a"),
     ("a/b", "a"),
     (":a", ":a"),
@@ -19,7 +20,7 @@ const NAMES: [(&str, &str); 10] = [
 ];
 
 // A text, and the longest path that begins there, or `!` where none does.
-const PATHS: [(&str, &str); 48] = [
+static PATHS: [(&str, &str); 48] = [
     ("/", "/"),
     ("/a", "/a"),
     ("/a/b/c", "/a/b/c"),
@@ -71,7 +72,7 @@ const PATHS: [(&str, &str); 48] = [
 ];
 
 // A text, and the scalar that begins there, or `!` where none does.
-const SCALARS: [(&str, &str); 11] = [
+static SCALARS: [(&str, &str); 11] = [
     ("0", "0"),
     ("-7,", "-7"),
     ("-0", "!"),
@@ -86,7 +87,7 @@ const SCALARS: [(&str, &str); 11] = [
 ];
 
 // A text, and the record that begins there, or `!` where none does.
-const RECORDS: [(&str, &str); 47] = [
+static RECORDS: [(&str, &str); 47] = [
     ("{}", "{}"),
     ("{}x", "{}"),
     ("{}{}", "{}"),
@@ -164,72 +165,63 @@ fn refused(alloc: Global, fault: TextFault) -> Result<Front, AllocError> {
     }
 }
 
-fn name_front(alloc: Global, text: &[u8]) -> Result<Front, AllocError> {
-    match Name::read(alloc, text) {
-        Ok((name, rest)) => {
-            let mut out = Vec::new(alloc);
-            name.print(&mut out)?;
-            Ok(Front {
-                text: out,
-                len: name.text_len(),
-                end: text.len().saturating_sub(rest.len()),
-            })
-        }
-        Err(fault) => refused(alloc, fault),
-    }
+fn name_front(alloc: Global, text: &[u8]) -> Result<Front, TextFault> {
+    let (name, rest) = Name::read(alloc, text)?;
+    let mut out = Vec::new(alloc);
+    name.print(&mut out)?;
+    Ok(Front {
+        text: out,
+        len: name.text_len(),
+        end: text.len().saturating_sub(rest.len()),
+    })
 }
 
-fn path_front(alloc: Global, text: &[u8]) -> Result<Front, AllocError> {
-    match Path::read_at(alloc, text, 0) {
-        Ok((path, end)) => {
-            let mut out = Vec::new(alloc);
-            path.print(&mut out)?;
-            Ok(Front {
-                text: out,
-                len: path.text_len(),
-                end,
-            })
-        }
-        Err(fault) => refused(alloc, fault),
-    }
+fn path_front(alloc: Global, text: &[u8]) -> Result<Front, TextFault> {
+    let (path, end) = Path::read_at(alloc, text, 0)?;
+    let mut out = Vec::new(alloc);
+    path.print(&mut out)?;
+    Ok(Front {
+        text: out,
+        len: path.text_len(),
+        end,
+    })
 }
 
-fn scalar_front(alloc: Global, text: &[u8]) -> Result<Front, AllocError> {
-    match Scalar::read(alloc, text) {
-        Ok((value, rest)) => {
-            let mut out = Vec::new(alloc);
-            value.print(&mut out)?;
-            Ok(Front {
-                text: out,
-                len: value.text_len(),
-                end: text.len().saturating_sub(rest.len()),
-            })
-        }
-        Err(fault) => refused(alloc, fault),
-    }
+fn scalar_front(alloc: Global, text: &[u8]) -> Result<Front, TextFault> {
+    let (value, rest) = Scalar::read(alloc, text)?;
+    let mut out = Vec::new(alloc);
+    value.print(&mut out)?;
+    Ok(Front {
+        text: out,
+        len: value.text_len(),
+        end: text.len().saturating_sub(rest.len()),
+    })
 }
 
-fn record_front(alloc: Global, text: &[u8]) -> Result<Front, AllocError> {
-    match Rec::read_at(alloc, text, 0) {
-        Ok((record, end)) => {
-            let mut out = Vec::new(alloc);
-            record.print(&mut out)?;
-            Ok(Front {
-                text: out,
-                len: record.text_len(),
-                end,
-            })
-        }
-        Err(fault) => refused(alloc, fault),
+fn record_front(alloc: Global, text: &[u8]) -> Result<Front, TextFault> {
+    let (record, end) = Rec::read_at(alloc, text, 0)?;
+    let mut out = Vec::new(alloc);
+    record.print(&mut out)?;
+    Ok(Front {
+        text: out,
+        len: record.text_len(),
+        end,
+    })
+}
+
+fn front_of(alloc: Global, form: Form, text: &[u8]) -> Result<Front, TextFault> {
+    match form {
+        Form::Name => name_front(alloc, text),
+        Form::Path => path_front(alloc, text),
+        Form::Scalar => scalar_front(alloc, text),
+        Form::Record => record_front(alloc, text),
     }
 }
 
 fn read_front(alloc: Global, form: Form, text: &str) -> Result<Front, AllocError> {
-    match form {
-        Form::Name => name_front(alloc, text.as_bytes()),
-        Form::Path => path_front(alloc, text.as_bytes()),
-        Form::Scalar => scalar_front(alloc, text.as_bytes()),
-        Form::Record => record_front(alloc, text.as_bytes()),
+    match front_of(alloc, form, text.as_bytes()) {
+        Ok(front) => Ok(front),
+        Err(fault) => refused(alloc, fault),
     }
 }
 
@@ -256,23 +248,48 @@ fn first_misread(
     Ok(None)
 }
 
+fn first_misread_name(alloc: Global) -> Result<Option<usize>, AllocError> {
+    first_misread(alloc, Form::Name, &NAMES)
+}
+
+fn first_misread_path(alloc: Global) -> Result<Option<usize>, AllocError> {
+    first_misread(alloc, Form::Path, &PATHS)
+}
+
+fn first_misread_scalar(alloc: Global) -> Result<Option<usize>, AllocError> {
+    first_misread(alloc, Form::Scalar, &SCALARS)
+}
+
+fn first_misread_record(alloc: Global) -> Result<Option<usize>, AllocError> {
+    first_misread(alloc, Form::Record, &RECORDS)
+}
+
 #[test]
-fn spellings(rt: HostRuntime) -> Result<(), Fail> {
+fn spellings_of_places(rt: HostRuntime) -> Result<(), Fail> {
     let alloc = rt.alloc();
-    assert_eq!(rt; first_misread(alloc, Form::Name, &NAMES)?, None);
-    assert_eq!(rt; first_misread(alloc, Form::Path, &PATHS)?, None);
-    assert_eq!(rt; first_misread(alloc, Form::Scalar, &SCALARS)?, None);
-    assert_eq!(rt; first_misread(alloc, Form::Record, &RECORDS)?, None);
+    assert_eq!(rt; first_misread_name(alloc)?, None);
+    assert_eq!(rt; first_misread_path(alloc)?, None);
+    Ok(())
+}
+
+#[test]
+fn spellings_of_values(rt: HostRuntime) -> Result<(), Fail> {
+    let alloc = rt.alloc();
+    assert_eq!(rt; first_misread_scalar(alloc)?, None);
+    assert_eq!(rt; first_misread_record(alloc)?, None);
     Ok(())
 }
 
 // Paths in rising order.
-const PATHS_IN_ORDER: [&str; 9] = [
+static PATHS_IN_ORDER: [&str; 9] = [
     "/", "/:a", "/:z", "/a", "/a/:b", "/a/b", "/a-", "/~", "/%FF",
 ];
 
 // Scalars in rising order.
-const SCALARS_IN_ORDER: [&str; 7] = ["-10", "-9", "0", "10", "'", "'~", "'%FF"];
+static SCALARS_IN_ORDER: [&str; 7] = ["-10", "-9", "0", "10", "'", "'~", "'%FF"];
+
+// Records in rising order.
+static RECORDS_IN_ORDER: [&str; 6] = ["{}", "{a=1}", "{a=1,b=0}", "{a=2}", "{a='1}", "{b=0}"];
 
 fn path_of(alloc: Global, text: &str) -> Result<Path, TextFault> {
     let (path, _) = Path::read(alloc, text.as_bytes())?;
@@ -284,46 +301,87 @@ fn scalar_of(alloc: Global, text: &str) -> Result<Scalar, TextFault> {
     Ok(value)
 }
 
-// How two paths compare, which are equal only where the order says so.
-fn paths_order(alloc: Global, first: &str, second: &str) -> Result<Option<Ordering>, TextFault> {
-    let first = path_of(alloc, first)?;
-    let second = path_of(alloc, second)?.copy()?;
-    let order = first.compare(&second);
-    Ok((first.is_same(&second) == (order == Ordering::Equal)).then_some(order))
-}
-
-fn scalars_order(alloc: Global, first: &str, second: &str) -> Result<Option<Ordering>, TextFault> {
-    let first = scalar_of(alloc, first)?;
-    let second = scalar_of(alloc, second)?.copy()?;
-    let order = first.compare(&second);
-    Ok((first.is_same(&second) == (order == Ordering::Equal)).then_some(order))
-}
-
-// Whether the paths stand in strictly rising order.
-fn paths_rise(alloc: Global, paths: &[&str]) -> Result<bool, TextFault> {
-    for (i, first) in paths.iter().enumerate() {
-        for (j, second) in paths.iter().enumerate() {
-            if paths_order(alloc, first, second)? != Some(i.cmp(&j)) {
-                return Ok(false);
-            }
-        }
-    }
-    Ok(true)
-}
-
-const RECORDS_IN_ORDER: [&str; 6] = ["{}", "{a=1}", "{a=1,b=0}", "{a=2}", "{a='1}", "{b=0}"];
-
 fn record(alloc: Global, text: &str) -> Result<Rec, TextFault> {
     let (record, _) = Rec::read_at(alloc, text.as_bytes(), 0)?;
     Ok(record)
 }
 
-fn records_rise(alloc: Global, records: &[&str]) -> Result<bool, TextFault> {
-    for (i, first) in records.iter().enumerate() {
-        for (j, second) in records.iter().enumerate() {
-            if record(alloc, first)?.cmp(&record(alloc, second)?) != i.cmp(&j) {
-                return Ok(false);
-            }
+fn path_copy(alloc: Global, text: &str) -> Result<Path, TextFault> {
+    Ok(path_of(alloc, text)?.copy()?)
+}
+
+fn scalar_copy(alloc: Global, text: &str) -> Result<Scalar, TextFault> {
+    Ok(scalar_of(alloc, text)?.copy()?)
+}
+
+// How two paths compare, which are equal only where the order says so.
+fn path_order(first: &Path, second: &Path) -> Option<Ordering> {
+    let order = first.compare(second);
+    (first.is_same(second) == (order == Ordering::Equal)).then_some(order)
+}
+
+fn scalar_order(first: &Scalar, second: &Scalar) -> Option<Ordering> {
+    let order = first.compare(second);
+    (first.is_same(second) == (order == Ordering::Equal)).then_some(order)
+}
+
+fn paths_order(alloc: Global, first: &str, second: &str) -> Result<Option<Ordering>, TextFault> {
+    let first = path_of(alloc, first)?;
+    Ok(path_order(&first, &path_copy(alloc, second)?))
+}
+
+fn scalars_order(alloc: Global, first: &str, second: &str) -> Result<Option<Ordering>, TextFault> {
+    let first = scalar_of(alloc, first)?;
+    Ok(scalar_order(&first, &scalar_copy(alloc, second)?))
+}
+
+fn records_order(alloc: Global, first: &str, second: &str) -> Result<Option<Ordering>, TextFault> {
+    let first = record(alloc, first)?;
+    Ok(Some(first.cmp(&record(alloc, second)?)))
+}
+
+// What is put in order.
+#[derive(Clone, Copy)]
+enum Kept {
+    Paths,
+    Scalars,
+    Records,
+}
+
+fn order_of(
+    alloc: Global,
+    kept: Kept,
+    first: &str,
+    second: &str,
+) -> Result<Option<Ordering>, TextFault> {
+    match kept {
+        Kept::Paths => paths_order(alloc, first, second),
+        Kept::Scalars => scalars_order(alloc, first, second),
+        Kept::Records => records_order(alloc, first, second),
+    }
+}
+
+// Whether a text stands in the order of its place to each of these.
+fn stands(
+    alloc: Global,
+    kept: Kept,
+    at: usize,
+    first: &str,
+    texts: &[&str],
+) -> Result<bool, TextFault> {
+    for (i, second) in texts.iter().enumerate() {
+        if order_of(alloc, kept, first, second)? != Some(at.cmp(&i)) {
+            return Ok(false);
+        }
+    }
+    Ok(true)
+}
+
+// Whether these stand in strictly rising order.
+fn rise(alloc: Global, kept: Kept, texts: &[&str]) -> Result<bool, TextFault> {
+    for (i, text) in texts.iter().enumerate() {
+        if !stands(alloc, kept, i, text, texts)? {
+            return Ok(false);
         }
     }
     Ok(true)
@@ -347,25 +405,32 @@ fn distinct_paths(alloc: Global, paths: &[&str]) -> Result<usize, TextFault> {
     Ok(set.len())
 }
 
-fn scalars_rise(alloc: Global, scalars: &[&str]) -> Result<bool, TextFault> {
-    for (i, first) in scalars.iter().enumerate() {
-        for (j, second) in scalars.iter().enumerate() {
-            if scalars_order(alloc, first, second)? != Some(i.cmp(&j)) {
-                return Ok(false);
-            }
-        }
-    }
-    Ok(true)
+// The first of the kinds that are put in another order.
+fn first_disorder(alloc: Global) -> Result<Option<usize>, TextFault> {
+    Ok(first_false(&[
+        rise(alloc, Kept::Paths, &PATHS_IN_ORDER)?,
+        rise(alloc, Kept::Scalars, &SCALARS_IN_ORDER)?,
+        rise(alloc, Kept::Records, &RECORDS_IN_ORDER)?,
+    ]))
 }
 
 #[test]
 fn orders(rt: HostRuntime) -> Result<(), Fail> {
+    assert_eq!(rt; first_disorder(rt.alloc())?, None);
+    Ok(())
+}
+
+#[test]
+fn hashes(rt: HostRuntime) -> Result<(), Fail> {
     let alloc = rt.alloc();
-    assert!(rt; paths_rise(alloc, &PATHS_IN_ORDER)?);
-    assert!(rt; scalars_rise(alloc, &SCALARS_IN_ORDER)?);
-    assert!(rt; records_rise(alloc, &RECORDS_IN_ORDER)?);
-    assert!(rt; distinct_records(alloc, &["{}", "{a=1}", "{a='1}", "{a=1}", "{}"])? == 3);
-    assert!(rt; distinct_paths(alloc, &["/", "/a", "/:a", "/a", "/a/b"])? == 4);
+    assert_eq!(rt;
+        distinct_records(alloc, &["{}", "{a=1}", "{a='1}", "{a=1}", "{}"])?,
+        3
+    );
+    assert_eq!(rt;
+        distinct_paths(alloc, &["/", "/a", "/:a", "/a", "/a/b"])?,
+        4
+    );
     Ok(())
 }
 
@@ -437,28 +502,63 @@ fn names_taken(alloc: Global, names: usize, count: usize) -> Result<(usize, usiz
     Ok((path.len(), end))
 }
 
+// The first length of a name that is taken otherwise.
+fn first_wrong_name(alloc: Global) -> Result<Option<usize>, AllocError> {
+    Ok(first_false(&[
+        name_of_letters(alloc, 0)? == Made::Empty,
+        name_of_letters(alloc, 255)? == Made::Whole,
+        name_of_letters(alloc, 256)? == Made::Over,
+    ]))
+}
+
+// The first path of long or many names that is cut otherwise.
+fn first_wrong_path(alloc: Global) -> Result<Option<usize>, TextFault> {
+    Ok(first_false(&[
+        names_taken(alloc, 1, 300)? == (1, 256),
+        names_taken(alloc, 5, 250)? == (5, 1024),
+        names_taken(alloc, 600, 1)? == (512, 1024),
+    ]))
+}
+
+// The first record of a long text or of many fields that is taken otherwise.
+fn first_wrong_record(alloc: Global) -> Result<Option<usize>, AllocError> {
+    Ok(first_false(&[
+        record_of_letters(alloc, 4091)? == Made::Whole,
+        record_of_letters(alloc, 4092)? == Made::Over,
+        fields_taken(alloc, 65)? == 64,
+    ]))
+}
+
 #[test]
-fn limits(rt: HostRuntime) -> Result<(), Fail> {
+fn limits_of_places(rt: HostRuntime) -> Result<(), Fail> {
     let alloc = rt.alloc();
-    assert!(rt; name_of_letters(alloc, 0)? == Made::Empty);
-    assert!(rt; name_of_letters(alloc, 255)? == Made::Whole);
-    assert!(rt; name_of_letters(alloc, 256)? == Made::Over);
-    assert!(rt; names_taken(alloc, 1, 300)? == (1, 256));
-    assert!(rt; names_taken(alloc, 5, 250)? == (5, 1024));
-    assert!(rt; names_taken(alloc, 600, 1)? == (512, 1024));
-    assert!(rt; record_of_letters(alloc, 4091)? == Made::Whole);
-    assert!(rt; record_of_letters(alloc, 4092)? == Made::Over);
-    assert!(rt; fields_taken(alloc, 65)? == 64);
+    assert_eq!(rt; first_wrong_name(alloc)?, None);
+    assert_eq!(rt; first_wrong_path(alloc)?, None);
     Ok(())
 }
 
+#[test]
+fn limits_of_records(rt: HostRuntime) -> Result<(), Fail> {
+    assert_eq!(rt; first_wrong_record(rt.alloc())?, None);
+    Ok(())
+}
+
+fn name_copy(alloc: Global, text: &str) -> Result<Name, TextFault> {
+    let (name, _) = Name::read(alloc, text.as_bytes())?;
+    Ok(name.copy()?)
+}
+
 // Whether a name behind a path gives what is expected, whose front is the path.
+fn is_child_of(path: &Path, name: &Name, expected: &Path) -> Result<bool, TextFault> {
+    let child = path.child(name)?;
+    let front = child.front(path.len())?;
+    Ok(child.is_same(expected) && front.is_same(path))
+}
+
 fn is_child(alloc: Global, path: &str, name: &str, expected: &str) -> Result<bool, TextFault> {
     let path = path_of(alloc, path)?;
-    let (name, _) = Name::read(alloc, name.as_bytes())?;
-    let child = path.child(&name.copy()?)?;
-    let front = child.front(path.len())?;
-    Ok(child.is_same(&path_of(alloc, expected)?) && front.is_same(&path))
+    let expected = path_of(alloc, expected)?;
+    is_child_of(&path, &name_copy(alloc, name)?, &expected)
 }
 
 // The value of a key, as it is spelled, in a record that begins at a place.
@@ -472,12 +572,28 @@ fn value_at(alloc: Global, text: &str, at: usize, key: &[u8]) -> Result<Vec<u8>,
     Ok(out)
 }
 
+fn has_value(
+    alloc: Global,
+    text: &str,
+    at: usize,
+    key: &[u8],
+    expected: &[u8],
+) -> Result<bool, TextFault> {
+    Ok(value_at(alloc, text, at, key)?.as_slice() == expected)
+}
+
+// The first child or value that is another.
+fn first_wrong_part(alloc: Global) -> Result<Option<usize>, TextFault> {
+    Ok(first_false(&[
+        is_child(alloc, "/a", ":.b", "/a/:.b")?,
+        is_child(alloc, "/", "%2E.", "/%2E.")?,
+        has_value(alloc, "put {a=1,b='x} ", 4, b"b", b"'x")?,
+        value_at(alloc, "{a=1}", 0, b"b").is_err(),
+    ]))
+}
+
 #[test]
 fn parts(rt: HostRuntime) -> Result<(), Fail> {
-    let alloc = rt.alloc();
-    assert!(rt; is_child(alloc, "/a", ":.b", "/a/:.b")?);
-    assert!(rt; is_child(alloc, "/", "%2E.", "/%2E.")?);
-    assert!(rt; value_at(alloc, "put {a=1,b='x} ", 4, b"b")?.as_slice() == b"'x".as_slice());
-    assert!(rt; value_at(alloc, "{a=1}", 0, b"b").is_err());
+    assert_eq!(rt; first_wrong_part(rt.alloc())?, None);
     Ok(())
 }

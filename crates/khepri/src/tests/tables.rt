@@ -1,44 +1,87 @@
-// Sessions: what is read, and what is written behind the first line.
-pub const SESSIONS: [(&str, &str); 35] = [
-    ("", ""),
+/// Sessions: what is read, and what is written behind the first line.
+pub type Sessions = &'static [(&'static [u8], &'static [u8])];
+
+/// How many subjects the sessions have.
+pub const SUBJECTS: usize = 6;
+
+/// The sessions of a subject. What it takes to prove a function grows with the square of the bytes in the tables that it
+/// names, so that each table has a function of its own.
+pub fn sessions_of(subject: usize) -> Sessions {
+    match subject {
+        0 => commands(),
+        1 => watches(),
+        2 => examples(),
+        3 => more_examples(),
+        4 => patterns(),
+        _ => conditions(),
+    }
+}
+
+fn commands() -> Sessions {
+    &COMMANDS
+}
+
+fn watches() -> Sessions {
+    &WATCHES
+}
+
+fn examples() -> Sessions {
+    &EXAMPLES
+}
+
+fn more_examples() -> Sessions {
+    &MORE_EXAMPLES
+}
+
+fn patterns() -> Sessions {
+    &PATTERNS
+}
+
+fn conditions() -> Sessions {
+    &CONDITIONS
+}
+
+// Lines, commands and their refusals.
+static COMMANDS: [(&[u8], &[u8]); 9] = [
+    (b"", b""),
     // CR LF, and a last line without LF
     (
-        "@1 put /a -\r\n@1 get /a",
-        "# 1 @1 put /a -\n= 1 1 ok 1 0\n# 2 @2 get /a\n= 2 2 node 1 1 0 -\n",
+        b"@1 put /a -\r\n@1 get /a",
+        b"# 1 @1 put /a -\n= 1 1 ok 1 0\n# 2 @2 get /a\n= 2 2 node 1 1 0 -\n",
     ),
     (
-        "\r\n\n@1 get /\r\n@1 get /\r",
-        "- 1 badline\n- 2 badline\n# 1 @3 get /\n= 3 1 node 1 1 0 -\n- 4 badline\n",
+        b"\r\n\n@1 get /\r\n@1 get /\r",
+        b"- 1 badline\n- 2 badline\n# 1 @3 get /\n= 3 1 node 1 1 0 -\n- 4 badline\n",
     ),
     // versions
     (
-        "@1 put /a/b {x=1}\n@1 put /a/b {x=1}\n@1 put /a/b {x=2}\n@1 put /a/c -\n@1 get /a\n@1 del /a/b\n@1 get /a\n@1 get /\n",
-        "# 1 @1 put /a/b {x=1}\n= 1 1 ok 1 0\n# 2 @2 put /a/b {x=1}\n= 2 2 ok 1 0\n# 3 @3 put /a/b {x=2}\n= 3 3 ok 2 0\n\
+        b"@1 put /a/b {x=1}\n@1 put /a/b {x=1}\n@1 put /a/b {x=2}\n@1 put /a/c -\n@1 get /a\n@1 del /a/b\n@1 get /a\n@1 get /\n",
+        b"# 1 @1 put /a/b {x=1}\n= 1 1 ok 1 0\n# 2 @2 put /a/b {x=1}\n= 2 2 ok 1 0\n# 3 @3 put /a/b {x=2}\n= 3 3 ok 2 0\n\
          # 4 @4 put /a/c -\n= 4 4 ok 1 0\n# 5 @5 get /a\n= 5 5 node 1 2 2 -\n# 6 @6 del /a/b\n= 6 6 ok 1 0\n\
          # 7 @7 get /a\n= 7 7 node 1 3 1 -\n# 8 @8 get /\n= 8 8 node 1 2 1 -\n",
     ),
     // both kinds of name, and refusals
     (
-        "@1 put /vhosts/%2F {}\n@1 put /:a/%2E -\n@1 get /%2f\n@1 put /%61 -\n@1 create /a {x=1}\n@1 create /a {x=2}\n\
+        b"@1 put /vhosts/%2F {}\n@1 put /:a/%2E -\n@1 get /%2f\n@1 put /%61 -\n@1 create /a {x=1}\n@1 create /a {x=2}\n\
          @1 clear /a\n@1 clear /z\n@2 get /\n",
-        "# 1 @1 put /vhosts/%2F {}\n= 1 1 ok 1 0\n# 2 @2 put /:a/%2E -\n= 2 2 ok 1 0\n- 3 badline\n- 4 badline\n\
+        b"# 1 @1 put /vhosts/%2F {}\n= 1 1 ok 1 0\n# 2 @2 put /:a/%2E -\n= 2 2 ok 1 0\n- 3 badline\n- 4 badline\n\
          # 3 @5 create /a {x=1}\n= 5 3 ok 1 0\n# 4 @6 create /a {x=2}\n= 6 4 no exists\n\
          # 5 @7 clear /a\n= 7 5 ok 2 0\n# 6 @8 clear /z\n= 8 6 no absent\n- 9 nonode\n",
     ),
     // every refusal of a command and of a line
     (
-        "@1 create /a {x=1}\n@1 create /a {x=2}\n@1 update /z -\n@1 del /\n@1 del /z\n@1 clear /z\n@1 get /z\nput /a\n\
+        b"@1 create /a {x=1}\n@1 create /a {x=2}\n@1 update /z -\n@1 del /\n@1 del /z\n@1 clear /z\n@1 get /z\nput /a\n\
          @1 put /a/../b -\n@8 get /\n@9 put /a/../b -\n@0 get /\n@1 get /a\n",
-        "# 1 @1 create /a {x=1}\n= 1 1 ok 1 0\n# 2 @2 create /a {x=2}\n= 2 2 no exists\n# 3 @3 update /z -\n= 3 3 no absent\n\
+        b"# 1 @1 create /a {x=1}\n= 1 1 ok 1 0\n# 2 @2 create /a {x=2}\n= 2 2 no exists\n# 3 @3 update /z -\n= 3 3 no absent\n\
          # 4 @4 del /\n= 4 4 no root\n# 5 @5 del /z\n= 5 5 ok 0 0\n# 6 @6 clear /z\n= 6 6 no absent\n\
          # 7 @7 get /z\n= 7 7 no absent\n- 8 badline\n- 9 badline\n- 10 nonode\n- 11 badline\n- 12 badline\n\
          # 8 @13 get /a\n= 13 8 node 1 1 0 {x=1}\n",
     ),
     // a deletion takes what is below, and what is made anew begins anew
     (
-        "@1 put /q/a/b {n=1}\n@1 put /q/a/b {n=2}\n@1 put /q/a-b -\n@1 del /q/a\n@1 get /q\n@1 get /q/a/b\n@1 get /q/a-b\n\
+        b"@1 put /q/a/b {n=1}\n@1 put /q/a/b {n=2}\n@1 put /q/a-b -\n@1 del /q/a\n@1 get /q\n@1 get /q/a/b\n@1 get /q/a-b\n\
          @1 put /q/a/b {n=2}\n@1 get /q/a/b\n@1 del /q\n@1 get /\n",
-        "# 1 @1 put /q/a/b {n=1}\n= 1 1 ok 1 0\n# 2 @2 put /q/a/b {n=2}\n= 2 2 ok 2 0\n# 3 @3 put /q/a-b -\n= 3 3 ok 1 0\n\
+        b"# 1 @1 put /q/a/b {n=1}\n= 1 1 ok 1 0\n# 2 @2 put /q/a/b {n=2}\n= 2 2 ok 2 0\n# 3 @3 put /q/a-b -\n= 3 3 ok 1 0\n\
          # 4 @4 del /q/a\n= 4 4 ok 2 0\n# 5 @5 get /q\n= 5 5 node 1 3 1 -\n# 6 @6 get /q/a/b\n= 6 6 no absent\n\
          # 7 @7 get /q/a-b\n= 7 7 node 1 1 0 -\n# 8 @8 put /q/a/b {n=2}\n= 8 8 ok 1 0\n\
          # 9 @9 get /q/a/b\n= 9 9 node 1 1 0 {n=2}\n# 10 @10 del /q\n= 10 10 ok 4 0\n\
@@ -46,13 +89,13 @@ pub const SESSIONS: [(&str, &str); 35] = [
     ),
     // a payload without fields is not an empty payload, and the root has a payload of its own
     (
-        "@1 put / {}\n@1 put / -\n@1 update / -\n@1 create / -\n@1 clear /\n@1 get /\n",
-        "# 1 @1 put / {}\n= 1 1 ok 2 0\n# 2 @2 put / -\n= 2 2 ok 3 0\n# 3 @3 update / -\n= 3 3 ok 3 0\n\
+        b"@1 put / {}\n@1 put / -\n@1 update / -\n@1 create / -\n@1 clear /\n@1 get /\n",
+        b"# 1 @1 put / {}\n= 1 1 ok 2 0\n# 2 @2 put / -\n= 2 2 ok 3 0\n# 3 @3 update / -\n= 3 3 ok 3 0\n\
          # 4 @4 create / -\n= 4 4 no exists\n# 5 @5 clear /\n= 5 5 ok 3 0\n# 6 @6 get /\n= 6 6 node 3 1 0 -\n",
     ),
     // 32 and 33 names
     (
-        "@1 put /1/2/3/4/5/6/7/8/9/0/1/2/3/4/5/6/7/8/9/0/1/2/3/4/5/6/7/8/9/0/1/2 -\n\
+        b"@1 put /1/2/3/4/5/6/7/8/9/0/1/2/3/4/5/6/7/8/9/0/1/2/3/4/5/6/7/8/9/0/1/2 -\n\
          @1 put /1/2/3/4/5/6/7/8/9/0/1/2/3/4/5/6/7/8/9/0/1/2/3/4/5/6/7/8/9/0/1/2/3 -\n\
          @1 create /1/2/3/4/5/6/7/8/9/0/1/2/3/4/5/6/7/8/9/0/1/2/3/4/5/6/7/8/9/0/1/2/3 -\n\
          @1 update /1/2/3/4/5/6/7/8/9/0/1/2/3/4/5/6/7/8/9/0/1/2/3/4/5/6/7/8/9/0/1/2/3 -\n\
@@ -60,7 +103,7 @@ pub const SESSIONS: [(&str, &str); 35] = [
          @1 clear /1/2/3/4/5/6/7/8/9/0/1/2/3/4/5/6/7/8/9/0/1/2/3/4/5/6/7/8/9/0/1/2/3\n\
          @1 del /1/2/3/4/5/6/7/8/9/0/1/2/3/4/5/6/7/8/9/0/1/2/3/4/5/6/7/8/9/0/1/2/3\n\
          @1 del /1\n",
-        "# 1 @1 put /1/2/3/4/5/6/7/8/9/0/1/2/3/4/5/6/7/8/9/0/1/2/3/4/5/6/7/8/9/0/1/2 -\n= 1 1 ok 1 0\n\
+        b"# 1 @1 put /1/2/3/4/5/6/7/8/9/0/1/2/3/4/5/6/7/8/9/0/1/2/3/4/5/6/7/8/9/0/1/2 -\n= 1 1 ok 1 0\n\
          # 2 @2 put /1/2/3/4/5/6/7/8/9/0/1/2/3/4/5/6/7/8/9/0/1/2/3/4/5/6/7/8/9/0/1/2/3 -\n= 2 2 no deep\n\
          # 3 @3 create /1/2/3/4/5/6/7/8/9/0/1/2/3/4/5/6/7/8/9/0/1/2/3/4/5/6/7/8/9/0/1/2/3 -\n= 3 3 no deep\n\
          # 4 @4 update /1/2/3/4/5/6/7/8/9/0/1/2/3/4/5/6/7/8/9/0/1/2/3/4/5/6/7/8/9/0/1/2/3 -\n= 4 4 no deep\n\
@@ -69,15 +112,19 @@ pub const SESSIONS: [(&str, &str); 35] = [
          # 7 @7 del /1/2/3/4/5/6/7/8/9/0/1/2/3/4/5/6/7/8/9/0/1/2/3/4/5/6/7/8/9/0/1/2/3\n= 7 7 ok 0 0\n\
          # 8 @8 del /1\n= 8 8 ok 32 0\n",
     ),
+];
+
+// Watches and what they delete.
+static WATCHES: [(&[u8], &[u8]); 8] = [
     // mutual watches
     (
-        "@1 put /b -\n\
+        b"@1 put /b -\n\
          @1 put /a - while /b exists\n\
          @1 put /b - while /a exists\n\
          @1 get /b\n\
          @1 del /a\n\
          @1 count /**\n",
-        "# 1 @1 put /b -\n\
+        b"# 1 @1 put /b -\n\
          = 1 1 ok 1 0\n\
          # 2 @2 put /a - while /b exists\n\
          = 2 2 ok 1 0\n\
@@ -92,11 +139,11 @@ pub const SESSIONS: [(&str, &str); 35] = [
     ),
     // a watch on itself
     (
-        "@1 put /s - while /s kids(gt,0)\n\
+        b"@1 put /s - while /s kids(gt,0)\n\
          @1 get /s\n\
          @1 put /s - while /s exists\n\
          @1 get /s\n",
-        "# 1 @1 put /s - while /s kids(gt,0)\n\
+        b"# 1 @1 put /s - while /s kids(gt,0)\n\
          = 1 1 no while /s\n\
          # 2 @2 get /s\n\
          = 2 2 no absent\n\
@@ -107,13 +154,13 @@ pub const SESSIONS: [(&str, &str); 35] = [
     ),
     // rounds decide
     (
-        "@1 put /p/1 -\n\
+        b"@1 put /p/1 -\n\
          @1 put /p/2 -\n\
          @1 put /p - while /p/1 exists\n\
          @1 put /w - while /p any(absent,kids(ge,2))\n\
          @1 del /p/1\n\
          @1 count /**\n",
-        "# 1 @1 put /p/1 -\n\
+        b"# 1 @1 put /p/1 -\n\
          = 1 1 ok 1 0\n\
          # 2 @2 put /p/2 -\n\
          = 2 2 ok 1 0\n\
@@ -128,12 +175,12 @@ pub const SESSIONS: [(&str, &str); 35] = [
     ),
     // a put that breaks its parent
     (
-        "@1 put /g/1 -\n\
+        b"@1 put /g/1 -\n\
          @1 put /g/2 -\n\
          @1 put /g - while /g kids(le,2)\n\
          @1 put /g/3 -\n\
          @1 get /g/3\n",
-        "# 1 @1 put /g/1 -\n\
+        b"# 1 @1 put /g/1 -\n\
          = 1 1 ok 1 0\n\
          # 2 @2 put /g/2 -\n\
          = 2 2 ok 1 0\n\
@@ -146,7 +193,7 @@ pub const SESSIONS: [(&str, &str); 35] = [
     ),
     // counts
     (
-        "@1 put /a/b/c {}\n\
+        b"@1 put /a/b/c {}\n\
          @1 count /**\n\
          @1 count /*/**\n\
          @1 count /**/c\n\
@@ -154,7 +201,7 @@ pub const SESSIONS: [(&str, &str); 35] = [
          @1 count /[kids(ge,1)]\n\
          @1 count /[any()]\n\
          @1 count /[all()]\n",
-        "# 1 @1 put /a/b/c {}\n\
+        b"# 1 @1 put /a/b/c {}\n\
          = 1 1 ok 1 0\n\
          # 2 @2 count /**\n\
          = 2 2 count 3\n\
@@ -173,7 +220,7 @@ pub const SESSIONS: [(&str, &str); 35] = [
     ),
     // refusals
     (
-        "@1 create /a {x=1}\n\
+        b"@1 create /a {x=1}\n\
          @1 create /a {x=2}\n\
          @1 update /z -\n\
          @1 cas /a field(x,eq,2) {x=3}\n\
@@ -186,7 +233,7 @@ pub const SESSIONS: [(&str, &str); 35] = [
          @1 clear /a\n\
          put /a\n\
          @1 put /a/../b -\n",
-        "# 1 @1 create /a {x=1}\n\
+        b"# 1 @1 create /a {x=1}\n\
          = 1 1 ok 1 0\n\
          # 2 @2 create /a {x=2}\n\
          = 2 2 no exists\n\
@@ -213,7 +260,7 @@ pub const SESSIONS: [(&str, &str); 35] = [
     ),
     // what is said of watches
     (
-        "@1 put / - free\n\
+        b"@1 put / - free\n\
          @1 put / - while /a exists\n\
          @1 put /a - free\n\
          @1 put /t -\n\
@@ -227,7 +274,7 @@ pub const SESSIONS: [(&str, &str); 35] = [
          @1 cas /z not(exists) - while /a exists\n\
          @1 delmany /[absent]\n\
          @1 delmany /*\n",
-        "# 1 @1 put / - free\n\
+        b"# 1 @1 put / - free\n\
          = 1 1 no root\n\
          # 2 @2 put / - while /a exists\n\
          = 2 2 no root\n\
@@ -258,16 +305,20 @@ pub const SESSIONS: [(&str, &str); 35] = [
     ),
     // a target of 33 names
     (
-        "@1 put /a - while /1/2/3/4/5/6/7/8/9/0/1/2/3/4/5/6/7/8/9/0/1/2/3/4/5/6/7/8/9/0/1/2/3 absent\n\
+        b"@1 put /a - while /1/2/3/4/5/6/7/8/9/0/1/2/3/4/5/6/7/8/9/0/1/2/3/4/5/6/7/8/9/0/1/2/3 absent\n\
          @1 put /a - while /1/2/3/4/5/6/7/8/9/0/1/2/3/4/5/6/7/8/9/0/1/2/3/4/5/6/7/8/9/0/1/2 absent\n",
-        "# 1 @1 put /a - while /1/2/3/4/5/6/7/8/9/0/1/2/3/4/5/6/7/8/9/0/1/2/3/4/5/6/7/8/9/0/1/2/3 absent\n\
+        b"# 1 @1 put /a - while /1/2/3/4/5/6/7/8/9/0/1/2/3/4/5/6/7/8/9/0/1/2/3/4/5/6/7/8/9/0/1/2/3 absent\n\
          = 1 1 no deep\n\
          # 2 @2 put /a - while /1/2/3/4/5/6/7/8/9/0/1/2/3/4/5/6/7/8/9/0/1/2/3/4/5/6/7/8/9/0/1/2 absent\n\
          = 2 2 ok 1 0\n",
     ),
+];
+
+// The example of README.md, and those of docs/LANGUAGE.md for one node.
+static EXAMPLES: [(&[u8], &[u8]); 7] = [
     // The example of README.md
     (
-        "@1 put /vhosts/%2F {}\n\
+        b"@1 put /vhosts/%2F {}\n\
          @1 put /vhosts/%2F/exchanges/logs {type='topic}\n\
          @1 put /vhosts/%2F/queues/q1 {durable=1}\n\
          @1 create /vhosts/%2F/exchanges/logs/b1 {key='app.%2A,to='q1} while /vhosts/%2F/queues/q1 exists\n\
@@ -277,7 +328,7 @@ pub const SESSIONS: [(&str, &str); 35] = [
          @1 count /vhosts/*/exchanges/*/*\n\
          @1 del /vhosts/%2F/queues/q1\n\
          @1 get /vhosts/%2F/exchanges/logs/b1\n",
-        "# 1 @1 put /vhosts/%2F {}\n\
+        b"# 1 @1 put /vhosts/%2F {}\n\
          = 1 1 ok 1 0\n\
          # 2 @2 put /vhosts/%2F/exchanges/logs {type='topic}\n\
          = 2 2 ok 1 0\n\
@@ -300,13 +351,13 @@ pub const SESSIONS: [(&str, &str); 35] = [
     ),
     // The examples of docs/LANGUAGE.md, in its order: put
     (
-        "@1 put /vhosts/%2F/queues/q1 {durable=1}\n\
+        b"@1 put /vhosts/%2F/queues/q1 {durable=1}\n\
          @1 put /vhosts/%2F/queues/q1 {durable=1}\n\
          @1 put /vhosts/%2F/queues/q1 {durable=0}\n\
          @1 put /vhosts/%2F -\n\
          @1 get /vhosts/%2F\n\
          @1 put /1/2/3/4/5/6/7/8/9/10/11/12/13/14/15/16/17/18/19/20/21/22/23/24/25/26/27/28/29/30/31/32/33 -\n",
-        "# 1 @1 put /vhosts/%2F/queues/q1 {durable=1}\n\
+        b"# 1 @1 put /vhosts/%2F/queues/q1 {durable=1}\n\
          = 1 1 ok 1 0\n\
          # 2 @2 put /vhosts/%2F/queues/q1 {durable=1}\n\
          = 2 2 ok 1 0\n\
@@ -321,10 +372,10 @@ pub const SESSIONS: [(&str, &str); 35] = [
     ),
     // create
     (
-        "@1 create /services/mail {port=25}\n\
+        b"@1 create /services/mail {port=25}\n\
          @1 create /services/mail {port=587}\n\
          @1 create / -\n",
-        "# 1 @1 create /services/mail {port=25}\n\
+        b"# 1 @1 create /services/mail {port=25}\n\
          = 1 1 ok 1 0\n\
          # 2 @2 create /services/mail {port=587}\n\
          = 2 2 no exists\n\
@@ -333,10 +384,10 @@ pub const SESSIONS: [(&str, &str); 35] = [
     ),
     // update
     (
-        "@1 update /services/mail {port=25}\n\
+        b"@1 update /services/mail {port=25}\n\
          @1 put /services/mail {port=25}\n\
          @1 update /services/mail {port=587}\n",
-        "# 1 @1 update /services/mail {port=25}\n\
+        b"# 1 @1 update /services/mail {port=25}\n\
          = 1 1 no absent\n\
          # 2 @2 put /services/mail {port=25}\n\
          = 2 2 ok 1 0\n\
@@ -345,12 +396,12 @@ pub const SESSIONS: [(&str, &str); 35] = [
     ),
     // clear
     (
-        "@1 clear /a\n\
+        b"@1 clear /a\n\
          @1 put /a {x=1}\n\
          @1 clear /a\n\
          @1 clear /a\n\
          @1 get /a\n",
-        "# 1 @1 clear /a\n\
+        b"# 1 @1 clear /a\n\
          = 1 1 no absent\n\
          # 2 @2 put /a {x=1}\n\
          = 2 2 ok 1 0\n\
@@ -363,12 +414,12 @@ pub const SESSIONS: [(&str, &str); 35] = [
     ),
     // get
     (
-        "@1 put /:amq/fanout {type='fanout}\n\
+        b"@1 put /:amq/fanout {type='fanout}\n\
          @1 get /:amq/fanout\n\
          @1 get /:amq\n\
          @1 get /amq\n\
          @1 get /\n",
-        "# 1 @1 put /:amq/fanout {type='fanout}\n\
+        b"# 1 @1 put /:amq/fanout {type='fanout}\n\
          = 1 1 ok 1 0\n\
          # 2 @2 get /:amq/fanout\n\
          = 2 2 node 1 1 0 {type='fanout}\n\
@@ -381,14 +432,14 @@ pub const SESSIONS: [(&str, &str); 35] = [
     ),
     // del
     (
-        "@1 put /x/1 -\n\
+        b"@1 put /x/1 -\n\
          @1 put /x/2/3 -\n\
          @1 del /x/2\n\
          @1 get /x\n\
          @1 del /x\n\
          @1 del /x\n\
          @1 del /\n",
-        "# 1 @1 put /x/1 -\n\
+        b"# 1 @1 put /x/1 -\n\
          = 1 1 ok 1 0\n\
          # 2 @2 put /x/2/3 -\n\
          = 2 2 ok 1 0\n\
@@ -403,14 +454,18 @@ pub const SESSIONS: [(&str, &str); 35] = [
          # 7 @7 del /\n\
          = 7 7 no root\n",
     ),
+];
+
+// The other examples of docs/LANGUAGE.md.
+static MORE_EXAMPLES: [(&[u8], &[u8]); 7] = [
     // cas
     (
-        "@1 cas /lock absent {owner='n1}\n\
+        b"@1 cas /lock absent {owner='n1}\n\
          @1 cas /lock absent {owner='n2}\n\
          @1 cas /lock field(owner,eq,'n1) {owner='n2}\n\
          @1 cas /lock all(is({owner='n2}),pv(eq,2)) -\n\
          @1 get /lock\n",
-        "# 1 @1 cas /lock absent {owner='n1}\n\
+        b"# 1 @1 cas /lock absent {owner='n1}\n\
          = 1 1 ok 1 0\n\
          # 2 @2 cas /lock absent {owner='n2}\n\
          = 2 2 no mismatch\n\
@@ -423,7 +478,7 @@ pub const SESSIONS: [(&str, &str); 35] = [
     ),
     // many and count
     (
-        "@1 put /q/a {len=3}\n\
+        b"@1 put /q/a {len=3}\n\
          @1 put /q/b {len=70}\n\
          @1 put /q/c/d -\n\
          @1 count /**\n\
@@ -431,7 +486,7 @@ pub const SESSIONS: [(&str, &str); 35] = [
          @1 many /q/[field(len,gt,10)] 10\n\
          @1 count /**/[not(payload)]\n\
          @1 count /\n",
-        "# 1 @1 put /q/a {len=3}\n\
+        b"# 1 @1 put /q/a {len=3}\n\
          = 1 1 ok 1 0\n\
          # 2 @2 put /q/b {len=70}\n\
          = 2 2 ok 1 0\n\
@@ -450,14 +505,14 @@ pub const SESSIONS: [(&str, &str); 35] = [
     ),
     // delmany
     (
-        "@1 put /tmp/a1 -\n\
+        b"@1 put /tmp/a1 -\n\
          @1 put /tmp/a2/x -\n\
          @1 put /tmp/b -\n\
          @1 delmany /tmp/[name(a*)]\n\
          @1 get /tmp\n\
          @1 delmany /tmp/**\n\
          @1 delmany /\n",
-        "# 1 @1 put /tmp/a1 -\n\
+        b"# 1 @1 put /tmp/a1 -\n\
          = 1 1 ok 1 0\n\
          # 2 @2 put /tmp/a2/x -\n\
          = 2 2 ok 1 0\n\
@@ -474,13 +529,13 @@ pub const SESSIONS: [(&str, &str); 35] = [
     ),
     // Watches
     (
-        "@1 put /queues/q1 {durable=1}\n\
+        b"@1 put /queues/q1 {durable=1}\n\
          @1 create /bindings/b1 {to='q1} while /queues/q1 exists\n\
          @1 put /bindings/b1 {key='x,to='q1}\n\
          @1 del /queues/q1\n\
          @1 get /bindings/b1\n\
          @1 put /bindings/b2 {to='q1} while /queues/q1 exists\n",
-        "# 1 @1 put /queues/q1 {durable=1}\n\
+        b"# 1 @1 put /queues/q1 {durable=1}\n\
          = 1 1 ok 1 0\n\
          # 2 @2 create /bindings/b1 {to='q1} while /queues/q1 exists\n\
          = 2 2 ok 1 0\n\
@@ -495,12 +550,12 @@ pub const SESSIONS: [(&str, &str); 35] = [
     ),
     // Watches
     (
-        "@1 put /p/1 -\n\
+        b"@1 put /p/1 -\n\
          @1 put /p/2 -\n\
          @1 put /p - while /p/1 exists\n\
          @1 put /w - while /p any(absent,kids(ge,2))\n\
          @1 del /p/1\n",
-        "# 1 @1 put /p/1 -\n\
+        b"# 1 @1 put /p/1 -\n\
          = 1 1 ok 1 0\n\
          # 2 @2 put /p/2 -\n\
          = 2 2 ok 1 0\n\
@@ -513,12 +568,12 @@ pub const SESSIONS: [(&str, &str); 35] = [
     ),
     // Watches
     (
-        "@1 put /g/1 -\n\
+        b"@1 put /g/1 -\n\
          @1 put /g/2 -\n\
          @1 put /g - while /g kids(le,2)\n\
          @1 put /g/3 -\n\
          @1 get /g\n",
-        "# 1 @1 put /g/1 -\n\
+        b"# 1 @1 put /g/1 -\n\
          = 1 1 ok 1 0\n\
          # 2 @2 put /g/2 -\n\
          = 2 2 ok 1 0\n\
@@ -531,13 +586,13 @@ pub const SESSIONS: [(&str, &str); 35] = [
     ),
     // Lines out
     (
-        "@1 get /%2f\n\
+        b"@1 get /%2f\n\
          @1 put /a/../b -\n\
          @1 put /a  {}\n\
          @1 put /a {y=1,x=1}\n\
          @2 get /\n\
          @1 get /\n",
-        "- 1 badline\n\
+        b"- 1 badline\n\
          - 2 badline\n\
          - 3 badline\n\
          - 4 badline\n\
@@ -545,10 +600,13 @@ pub const SESSIONS: [(&str, &str); 35] = [
          # 1 @6 get /\n\
          = 6 1 node 1 1 0 -\n",
     ),
-    // Patterns against small trees, and the nodes that each matches, worked out by hand
+];
+
+// Patterns against small trees, and the nodes that each matches, worked out by hand.
+static PATTERNS: [(&[u8], &[u8]); 3] = [
     // patterns over one path
     (
-        "@1 put /a/b/c {}\n\
+        b"@1 put /a/b/c {}\n\
          @1 many / 256\n\
          @1 many /** 256\n\
          @1 many /*/** 256\n\
@@ -573,7 +631,7 @@ pub const SESSIONS: [(&str, &str); 35] = [
          @1 many /**/[not(payload)] 256\n\
          @1 many /[absent] 256\n\
          @1 many /**/[not(absent)] 256\n",
-        "# 1 @1 put /a/b/c {}\n\
+        b"# 1 @1 put /a/b/c {}\n\
          = 1 1 ok 1 0\n\
          # 2 @2 many / 256\n\
          = 2 2 nodes 1 / 1 2 1 -\n\
@@ -624,9 +682,111 @@ pub const SESSIONS: [(&str, &str); 35] = [
          # 25 @25 many /**/[not(absent)] 256\n\
          = 25 25 nodes 2 /a/b 1 1 1 - /a/b/c 1 1 0 {}\n",
     ),
+    // patterns over names that repeat
+    (
+        b"@1 put /x/y/x/y/z -\n\
+         @1 put /x/abab {}\n\
+         @1 put /x/aXbYb -\n\
+         @1 put /x/%2A {}\n\
+         @1 many /**/y 256\n\
+         @1 many /**/x/** 256\n\
+         @1 many /x/**/z 256\n\
+         @1 many /x/*/z 256\n\
+         @1 many /*/y/*/y 256\n\
+         @1 many /x/[name(a*b)] 256\n\
+         @1 many /x/[name(*ab)] 256\n\
+         @1 many /x/[name(a*b*b)] 256\n\
+         @1 many /x/[name(a*bYb)] 256\n\
+         @1 many /x/[name(ab*ab*)] 256\n\
+         @1 many /x/[name(ab*ab*ab)] 256\n\
+         @1 many /x/%2A 256\n\
+         @1 many /x/[name(%2A)] 256\n\
+         @1 many /x/[name(*)] 256\n\
+         @1 many /**/[kids(eq,1)]/** 256\n\
+         @1 many /[kids(eq,1)] 256\n\
+         @1 many /x/[not(not(data))] 256\n\
+         @1 many /x/y/**/y/** 256\n",
+        b"# 1 @1 put /x/y/x/y/z -\n\
+         = 1 1 ok 1 0\n\
+         # 2 @2 put /x/abab {}\n\
+         = 2 2 ok 1 0\n\
+         # 3 @3 put /x/aXbYb -\n\
+         = 3 3 ok 1 0\n\
+         # 4 @4 put /x/%2A {}\n\
+         = 4 4 ok 1 0\n\
+         # 5 @5 many /**/y 256\n\
+         = 5 5 nodes 2 /x/y 1 1 1 - /x/y/x/y 1 1 1 -\n\
+         # 6 @6 many /**/x/** 256\n\
+         = 6 6 nodes 2 /x/y/x/y 1 1 1 - /x/y/x/y/z 1 1 0 -\n\
+         # 7 @7 many /x/**/z 256\n\
+         = 7 7 nodes 1 /x/y/x/y/z 1 1 0 -\n\
+         # 8 @8 many /x/*/z 256\n\
+         = 8 8 nodes 0\n\
+         # 9 @9 many /*/y/*/y 256\n\
+         = 9 9 nodes 1 /x/y/x/y 1 1 1 -\n\
+         # 10 @10 many /x/[name(a*b)] 256\n\
+         = 10 10 nodes 2 /x/aXbYb 1 1 0 - /x/abab 1 1 0 {}\n\
+         # 11 @11 many /x/[name(*ab)] 256\n\
+         = 11 11 nodes 1 /x/abab 1 1 0 {}\n\
+         # 12 @12 many /x/[name(a*b*b)] 256\n\
+         = 12 12 nodes 2 /x/aXbYb 1 1 0 - /x/abab 1 1 0 {}\n\
+         # 13 @13 many /x/[name(a*bYb)] 256\n\
+         = 13 13 nodes 1 /x/aXbYb 1 1 0 -\n\
+         # 14 @14 many /x/[name(ab*ab*)] 256\n\
+         = 14 14 nodes 1 /x/abab 1 1 0 {}\n\
+         # 15 @15 many /x/[name(ab*ab*ab)] 256\n\
+         = 15 15 nodes 0\n\
+         # 16 @16 many /x/%2A 256\n\
+         = 16 16 nodes 1 /x/%2A 1 1 0 {}\n\
+         # 17 @17 many /x/[name(%2A)] 256\n\
+         = 17 17 nodes 1 /x/%2A 1 1 0 {}\n\
+         # 18 @18 many /x/[name(*)] 256\n\
+         = 18 18 nodes 4 /x/%2A 1 1 0 {} /x/aXbYb 1 1 0 - /x/abab 1 1 0 {} /x/y 1 1 1 -\n\
+         # 19 @19 many /**/[kids(eq,1)]/** 256\n\
+         = 19 19 nodes 3 /x/y/x 1 1 1 - /x/y/x/y 1 1 1 - /x/y/x/y/z 1 1 0 -\n\
+         # 20 @20 many /[kids(eq,1)] 256\n\
+         = 20 20 nodes 0\n\
+         # 21 @21 many /x/[not(not(data))] 256\n\
+         = 21 21 nodes 2 /x/%2A 1 1 0 {} /x/abab 1 1 0 {}\n\
+         # 22 @22 many /x/y/**/y/** 256\n\
+         = 22 22 nodes 1 /x/y/x/y/z 1 1 0 -\n",
+    ),
+    // what is no pattern
+    (
+        b"@1 count /a/\n\
+         @1 count /***\n\
+         @1 count /a*\n\
+         @1 count /[]\n\
+         @1 count /[absent\n\
+         @1 count a\n\
+         @1 count //a\n\
+         @1 count /[not()]\n\
+         @1 count /[pv(eq,01)]\n\
+         @1 count /[name()]\n\
+         @1 count /[name(:)]\n\
+         @1 count /[name(?)]\n\
+         @1 count /a/a/a/a/a/a/a/a/a/a/a/a/a/a/a/a/a/a/a/a/a/a/a/a/a/a/a/a/a/a/a/a/a\n",
+        b"- 1 badline\n\
+         - 2 badline\n\
+         - 3 badline\n\
+         - 4 badline\n\
+         - 5 badline\n\
+         - 6 badline\n\
+         - 7 badline\n\
+         - 8 badline\n\
+         - 9 badline\n\
+         - 10 badline\n\
+         - 11 badline\n\
+         - 12 badline\n\
+         - 13 badline\n",
+    ),
+];
+
+// Patterns with conditions, likewise.
+static CONDITIONS: [(&[u8], &[u8]); 1] = [
     // patterns over names, fields and versions
     (
-        "@1 put /q/a {n=5,t='x}\n\
+        b"@1 put /q/a {n=5,t='x}\n\
          @1 put /q/b {n=10}\n\
          @1 put /q/:a {n='5}\n\
          @1 put /q/ab -\n\
@@ -656,7 +816,7 @@ pub const SESSIONS: [(&str, &str); 35] = [
          @1 many /[all(kids(ge,4),not(payload))]/[any(pv(gt,1),name(:a))] 256\n\
          @1 many /**/[sproc] 256\n\
          @1 many /q/[all(exists,not(data))] 256\n",
-        "# 1 @1 put /q/a {n=5,t='x}\n\
+        b"# 1 @1 put /q/a {n=5,t='x}\n\
          = 1 1 ok 1 0\n\
          # 2 @2 put /q/b {n=10}\n\
          = 2 2 ok 1 0\n\
@@ -716,103 +876,5 @@ pub const SESSIONS: [(&str, &str); 35] = [
          = 29 29 nodes 0\n\
          # 30 @30 many /q/[all(exists,not(data))] 256\n\
          = 30 30 nodes 1 /q/ab 1 1 0 -\n",
-    ),
-    // patterns over names that repeat
-    (
-        "@1 put /x/y/x/y/z -\n\
-         @1 put /x/abab {}\n\
-         @1 put /x/aXbYb -\n\
-         @1 put /x/%2A {}\n\
-         @1 many /**/y 256\n\
-         @1 many /**/x/** 256\n\
-         @1 many /x/**/z 256\n\
-         @1 many /x/*/z 256\n\
-         @1 many /*/y/*/y 256\n\
-         @1 many /x/[name(a*b)] 256\n\
-         @1 many /x/[name(*ab)] 256\n\
-         @1 many /x/[name(a*b*b)] 256\n\
-         @1 many /x/[name(a*bYb)] 256\n\
-         @1 many /x/[name(ab*ab*)] 256\n\
-         @1 many /x/[name(ab*ab*ab)] 256\n\
-         @1 many /x/%2A 256\n\
-         @1 many /x/[name(%2A)] 256\n\
-         @1 many /x/[name(*)] 256\n\
-         @1 many /**/[kids(eq,1)]/** 256\n\
-         @1 many /[kids(eq,1)] 256\n\
-         @1 many /x/[not(not(data))] 256\n\
-         @1 many /x/y/**/y/** 256\n",
-        "# 1 @1 put /x/y/x/y/z -\n\
-         = 1 1 ok 1 0\n\
-         # 2 @2 put /x/abab {}\n\
-         = 2 2 ok 1 0\n\
-         # 3 @3 put /x/aXbYb -\n\
-         = 3 3 ok 1 0\n\
-         # 4 @4 put /x/%2A {}\n\
-         = 4 4 ok 1 0\n\
-         # 5 @5 many /**/y 256\n\
-         = 5 5 nodes 2 /x/y 1 1 1 - /x/y/x/y 1 1 1 -\n\
-         # 6 @6 many /**/x/** 256\n\
-         = 6 6 nodes 2 /x/y/x/y 1 1 1 - /x/y/x/y/z 1 1 0 -\n\
-         # 7 @7 many /x/**/z 256\n\
-         = 7 7 nodes 1 /x/y/x/y/z 1 1 0 -\n\
-         # 8 @8 many /x/*/z 256\n\
-         = 8 8 nodes 0\n\
-         # 9 @9 many /*/y/*/y 256\n\
-         = 9 9 nodes 1 /x/y/x/y 1 1 1 -\n\
-         # 10 @10 many /x/[name(a*b)] 256\n\
-         = 10 10 nodes 2 /x/aXbYb 1 1 0 - /x/abab 1 1 0 {}\n\
-         # 11 @11 many /x/[name(*ab)] 256\n\
-         = 11 11 nodes 1 /x/abab 1 1 0 {}\n\
-         # 12 @12 many /x/[name(a*b*b)] 256\n\
-         = 12 12 nodes 2 /x/aXbYb 1 1 0 - /x/abab 1 1 0 {}\n\
-         # 13 @13 many /x/[name(a*bYb)] 256\n\
-         = 13 13 nodes 1 /x/aXbYb 1 1 0 -\n\
-         # 14 @14 many /x/[name(ab*ab*)] 256\n\
-         = 14 14 nodes 1 /x/abab 1 1 0 {}\n\
-         # 15 @15 many /x/[name(ab*ab*ab)] 256\n\
-         = 15 15 nodes 0\n\
-         # 16 @16 many /x/%2A 256\n\
-         = 16 16 nodes 1 /x/%2A 1 1 0 {}\n\
-         # 17 @17 many /x/[name(%2A)] 256\n\
-         = 17 17 nodes 1 /x/%2A 1 1 0 {}\n\
-         # 18 @18 many /x/[name(*)] 256\n\
-         = 18 18 nodes 4 /x/%2A 1 1 0 {} /x/aXbYb 1 1 0 - /x/abab 1 1 0 {} /x/y 1 1 1 -\n\
-         # 19 @19 many /**/[kids(eq,1)]/** 256\n\
-         = 19 19 nodes 3 /x/y/x 1 1 1 - /x/y/x/y 1 1 1 - /x/y/x/y/z 1 1 0 -\n\
-         # 20 @20 many /[kids(eq,1)] 256\n\
-         = 20 20 nodes 0\n\
-         # 21 @21 many /x/[not(not(data))] 256\n\
-         = 21 21 nodes 2 /x/%2A 1 1 0 {} /x/abab 1 1 0 {}\n\
-         # 22 @22 many /x/y/**/y/** 256\n\
-         = 22 22 nodes 1 /x/y/x/y/z 1 1 0 -\n",
-    ),
-    // what is no pattern
-    (
-        "@1 count /a/\n\
-         @1 count /***\n\
-         @1 count /a*\n\
-         @1 count /[]\n\
-         @1 count /[absent\n\
-         @1 count a\n\
-         @1 count //a\n\
-         @1 count /[not()]\n\
-         @1 count /[pv(eq,01)]\n\
-         @1 count /[name()]\n\
-         @1 count /[name(:)]\n\
-         @1 count /[name(?)]\n\
-         @1 count /a/a/a/a/a/a/a/a/a/a/a/a/a/a/a/a/a/a/a/a/a/a/a/a/a/a/a/a/a/a/a/a/a\n",
-        "- 1 badline\n\
-         - 2 badline\n\
-         - 3 badline\n\
-         - 4 badline\n\
-         - 5 badline\n\
-         - 6 badline\n\
-         - 7 badline\n\
-         - 8 badline\n\
-         - 9 badline\n\
-         - 10 badline\n\
-         - 11 badline\n\
-         - 12 badline\n\
-         - 13 badline\n",
     ),
 ];

@@ -3,7 +3,7 @@ use Rattle.std.proofs.lemmas.Result.{on_ok_weaker}
 use Rattle.khepri_terms.proofs.Printing.{front_of}
 use Rattle.khepri_types.specs.ConditionTexts.{joined, condition_text}
 use Rattle.line_text.proofs.Parts.{joined_none, print_on, comma_front, list_printed}
-use Rattle.line_text.proofs.Said.{absent_printed, exists_printed, payload_printed, data_printed, sproc_printed, name_printed, is_printed, field_printed, pv_printed, cv_printed, kids_printed, all_printed, any_printed}
+use Rattle.line_text.proofs.Said.{absent_printed, exists_printed, payload_printed, data_printed, sproc_printed, name_printed, is_printed, field_printed, pv_printed, cv_printed, kids_printed, not_printed, all_printed, any_printed}
 use Rattle.line_text.proofs.condition.+printing.Goals as goal
 
 pub append_condition-returns-in-Absent-clause-ok : goal.append_condition-returns-in-Absent-clause-ok
@@ -38,6 +38,10 @@ append_condition-returns-in-Cv-clause-ok t c = on_ok_weaker c.append_number_aske
 
 pub append_condition-returns-in-Kids-clause-ok : goal.append_condition-returns-in-Kids-clause-ok
 append_condition-returns-in-Kids-clause-ok t c = on_ok_weaker c.append_number_asked-in-Kids.result (kids_printed _ _ _ _ _ c.in-Kids.is) c.append_number_asked-in-Kids.ensures.ok
+
+pub append_condition-returns-in-Not-clause-ok : goal.append_condition-returns-in-Not-clause-ok
+append_condition-returns-in-Not-clause-ok t c =
+    on_ok_weaker c.append_not_asked.result (not_printed _ _ _ _ c.in-Not.is) c.append_not_asked.ensures.ok
 
 pub append_condition-returns-in-All-clause-ok : goal.append_condition-returns-in-All-clause-ok
 append_condition-returns-in-All-clause-ok t c =
@@ -81,6 +85,9 @@ append_condition-returns-in-Cv-clause-front t c = c.append_number_asked-in-Cv.en
 
 pub append_condition-returns-in-Kids-clause-front : goal.append_condition-returns-in-Kids-clause-front
 append_condition-returns-in-Kids-clause-front t c = c.append_number_asked-in-Kids.ensures.front
+
+pub append_condition-returns-in-Not-clause-front : goal.append_condition-returns-in-Not-clause-front
+append_condition-returns-in-Not-clause-front t c = c.append_not_asked.ensures.front
 
 pub append_condition-returns-in-All-clause-front : goal.append_condition-returns-in-All-clause-front
 append_condition-returns-in-All-clause-front t c = c.append_list_asked.ensures.front

@@ -6,17 +6,35 @@ use Rattle.std.proofs.lemmas.List.{length-append}
 use Rattle.std.proofs.lemmas.Result.{IfOk-weaker, err_from_is_err_and}
 use Rattle.khepri_types.specs.ReadingConditions.{nested_at, some_asked}
 use Rattle.line_text.proofs.Parts.{nested_none, left_none, nested_step, parts_past, parts_none, parts_odd, parts_last, parts_on, parts_fail}
-use Rattle.line_text.proofs.Layers.{layer_asks}
+use Rattle.line_text.proofs.Layers.{layer_not, layer_all, layer_any}
+use Rattle.line_text.proofs.Atoms.{layer_atom}
 use Rattle.line_text.proofs.condition.+reading.Goals as goal
+
+pub read_layer-returns-in-Some-clause-value : goal.read_layer-returns-in-Some-clause-value
+read_layer-returns-in-Some-clause-value t c = IfOk-weaker c.read_not_asked.result _ _ (λ x e. layer_not (nested_at c.args.nesting) c.args.left c.args.text.now c.in-Some.rest.now c.in-Some.ensures.0 c.in-Some.ensures.1 ∙ e) c.read_not_asked.ensures.value
+
+pub read_layer-returns-in-Some-clause-bad : goal.read_layer-returns-in-Some-clause-bad
+read_layer-returns-in-Some-clause-bad t c = λ e. layer_not (nested_at c.args.nesting) c.args.left c.args.text.now c.in-Some.rest.now c.in-Some.ensures.0 c.in-Some.ensures.1 ∙ c.read_not_asked.ensures.bad e
+
+pub read_layer-returns-in-Some-strip-clause-value : goal.read_layer-returns-in-Some-strip-clause-value
+read_layer-returns-in-Some-strip-clause-value t c = IfOk-weaker c.read_all_asked.result _ _ (λ x e. layer_all (nested_at c.args.nesting) c.args.left c.args.text.now c.in-Some-strip.rest.now c.in-Some-strip.ensures.0 c.in-Some-strip.ensures.1 ∙ e) c.read_all_asked.ensures.value
+
+pub read_layer-returns-in-Some-strip-clause-bad : goal.read_layer-returns-in-Some-strip-clause-bad
+read_layer-returns-in-Some-strip-clause-bad t c = λ e. layer_all (nested_at c.args.nesting) c.args.left c.args.text.now c.in-Some-strip.rest.now c.in-Some-strip.ensures.0 c.in-Some-strip.ensures.1 ∙ c.read_all_asked.ensures.bad e
+
+pub read_layer-returns-in-Some-strip-2-clause-value : goal.read_layer-returns-in-Some-strip-2-clause-value
+read_layer-returns-in-Some-strip-2-clause-value t c = IfOk-weaker c.read_any_asked.result _ _ (λ x e. layer_any (nested_at c.args.nesting) c.args.left c.args.text.now c.in-Some-strip-2.rest.now c.in-Some-strip-2.ensures.0 c.in-Some-strip-2.ensures.1 ∙ e) c.read_any_asked.ensures.value
+
+pub read_layer-returns-in-Some-strip-2-clause-bad : goal.read_layer-returns-in-Some-strip-2-clause-bad
+read_layer-returns-in-Some-strip-2-clause-bad t c = λ e. layer_any (nested_at c.args.nesting) c.args.left c.args.text.now c.in-Some-strip-2.rest.now c.in-Some-strip-2.ensures.0 c.in-Some-strip-2.ensures.1 ∙ c.read_any_asked.ensures.bad e
 
 pub read_layer-returns-clause-value : goal.read_layer-returns-clause-value
 read_layer-returns-clause-value t c =
-    IfOk-weaker c.read_asking.result _ _ (λ x e. layer_asks (nested_at c.args.nesting) c.args.left c.args.text.now c.in_default.ensures c.in_default-strip.ensures c.in_default-strip-2.ensures c.in_default-strip-3.ensures c.in_default-strip-4.ensures ∙ e)
-    c.read_asking.ensures.value
+    IfOk-weaker c.read_atom.result _ _ (λ x e. layer_atom (nested_at c.args.nesting) c.args.left c.args.text.now c.in_default.ensures c.in_default-strip.ensures c.in_default-strip-2.ensures ∙ e)
+    c.read_atom.ensures.value
 
 pub read_layer-returns-clause-bad : goal.read_layer-returns-clause-bad
-read_layer-returns-clause-bad t c =
-    λ e. layer_asks (nested_at c.args.nesting) c.args.left c.args.text.now c.in_default.ensures c.in_default-strip.ensures c.in_default-strip-2.ensures c.in_default-strip-3.ensures c.in_default-strip-4.ensures ∙ c.read_asking.ensures.bad e
+read_layer-returns-clause-bad t c = λ e. layer_atom (nested_at c.args.nesting) c.args.left c.args.text.now c.in_default.ensures c.in_default-strip.ensures c.in_default-strip-2.ensures ∙ c.read_atom.ensures.bad e
 
 pub read_nested-returns-then-nesting-eq0-clause-bad : goal.read_nested-returns-then-nesting-eq0-clause-bad
 read_nested-returns-then-nesting-eq0-clause-bad t c = λ _. nested_none c.args.nesting c.args.left c.args.text.now (omega arith)

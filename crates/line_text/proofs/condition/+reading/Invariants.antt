@@ -16,13 +16,7 @@ abbrev pub decreases-read_nested : goal.decreases-read_nested
 decreases-read_nested l = l.nesting * 8
 
 abbrev pub decreases-read_layer : goal.decreases-read_layer
-decreases-read_layer l = l.nesting * 8 + 6
-
-abbrev pub decreases-read_asking : goal.decreases-read_asking
-decreases-read_asking l = l.nesting * 8 + 5
-
-abbrev pub decreases-read_outer : goal.decreases-read_outer
-decreases-read_outer l = l.nesting * 8 + 4
+decreases-read_layer l = l.nesting * 8 + 4
 
 abbrev pub decreases-read_all_asked : goal.decreases-read_all_asked
 decreases-read_all_asked l = l.nesting * 8 + 3

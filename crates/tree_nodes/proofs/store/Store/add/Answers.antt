@@ -24,3 +24,6 @@ returns-clause-bytes c =
     let here : x ≡ e = c.index.ensures ∙ (ap (λ (ys : List Entry). get_or ys at x) made ∙ get_or-insert_at es at e x le) in
     bytes-made es at e b c.saturating_add-self.result c.requires.bytes (c.saturating_add-self.ensures ∙ ap (λ (n : ℕ). capped (b + n)) (c.node_len.ensures ∙ ap (λ (y : Entry). capped (node_bytes y)) here))
     ∙ ap nodes_bytes (sym made)
+
+pub returns-in_err-reserve-clause-bytes : goal.returns-in_err-reserve-clause-bytes
+returns-in_err-reserve-clause-bytes c = c.requires.bytes

@@ -98,3 +98,21 @@ returns-clause-parent c =
     sym (stays-put c.way.self.nodes.items c.make-2.new.self.nodes.items (take (i + 1) p) _ (take c.args.above p) c.way.invariant.way.kept.sorted c.in_ok-make-2.ensures.made
     (λ e. apart_at p c.args.above (i + 1) (omega (arith, c.len-last.ensures, c.requires.within)) (omega (arith, c.len-last.ensures, c.requires.within)) (sym e)))
     ∙ c.way.invariant.parent
+
+pub returns-in_err-make-clause-kept : goal.returns-in_err-make-clause-kept
+returns-in_err-make-clause-kept c = c.in_err-make.ensures.kept
+
+pub returns-in_err-make-clause-bytes : goal.returns-in_err-make-clause-bytes
+returns-in_err-make-clause-bytes c = c.in_err-make.ensures.bytes
+
+pub returns-in_err-make-2-clause-kept : goal.returns-in_err-make-2-clause-kept
+returns-in_err-make-2-clause-kept c = c.in_err-make-2.ensures.kept
+
+pub returns-in_err-make-2-clause-bytes : goal.returns-in_err-make-2-clause-bytes
+returns-in_err-make-2-clause-bytes c = c.in_err-make-2.ensures.bytes
+
+pub returns-clause-kept : goal.returns-clause-kept
+returns-clause-kept c = c.in_ok-make-2.ensures.kept
+
+pub returns-clause-bytes : goal.returns-clause-bytes
+returns-clause-bytes c = c.in_ok-make-2.ensures.bytes

@@ -69,3 +69,57 @@ returns-clause-touches c =
     let new = c.note_cuts.new.touched.keys in
     let noted : Touches (from_sorted es) (drop_paths (from_sorted es) ps) old new = subst (λ (ys : List Entry). Touches (from_sorted ys) (drop_paths (from_sorted ys) ps) old new) c.as_slice-4.ensures.value c.in_ok-note_cuts.ensures.touches in
     subst (λ (U : Tree). Touches (from_sorted es) U old new) (sym (ap (λ (ys : List Entry). from_sorted {R = path_cmp} ys) c.sift.ensures.nodes ∙ sym (drop_is ps es c.requires.kept.sorted))) noted
+
+pub returns-in_err-gone-clause-kept : goal.returns-in_err-gone-clause-kept
+returns-in_err-gone-clause-kept c = c.requires.kept
+
+pub returns-in_err-gone-clause-bytes : goal.returns-in_err-gone-clause-bytes
+returns-in_err-gone-clause-bytes c = c.requires.bytes
+
+pub returns-in_err-gone-clause-stays : goal.returns-in_err-gone-clause-stays
+returns-in_err-gone-clause-stays c = λ q t. t
+
+pub returns-in_err-lost-clause-kept : goal.returns-in_err-lost-clause-kept
+returns-in_err-lost-clause-kept c = c.requires.kept
+
+pub returns-in_err-lost-clause-bytes : goal.returns-in_err-lost-clause-bytes
+returns-in_err-lost-clause-bytes c = c.requires.bytes
+
+pub returns-in_err-lost-clause-stays : goal.returns-in_err-lost-clause-stays
+returns-in_err-lost-clause-stays c = λ q t. t
+
+pub returns-in_err-room-clause-kept : goal.returns-in_err-room-clause-kept
+returns-in_err-room-clause-kept c = c.requires.kept
+
+pub returns-in_err-room-clause-bytes : goal.returns-in_err-room-clause-bytes
+returns-in_err-room-clause-bytes c = c.requires.bytes
+
+pub returns-in_err-room-clause-stays : goal.returns-in_err-room-clause-stays
+returns-in_err-room-clause-stays c = λ q t. t
+
+pub returns-in_err-kid_room-clause-kept : goal.returns-in_err-kid_room-clause-kept
+returns-in_err-kid_room-clause-kept c = c.requires.kept
+
+pub returns-in_err-kid_room-clause-bytes : goal.returns-in_err-kid_room-clause-bytes
+returns-in_err-kid_room-clause-bytes c = c.requires.bytes
+
+pub returns-in_err-kid_room-clause-stays : goal.returns-in_err-kid_room-clause-stays
+returns-in_err-kid_room-clause-stays c = λ q t. t
+
+pub returns-in_err-note_cuts-clause-kept : goal.returns-in_err-note_cuts-clause-kept
+returns-in_err-note_cuts-clause-kept c = c.requires.kept
+
+pub returns-in_err-note_cuts-clause-bytes : goal.returns-in_err-note_cuts-clause-bytes
+returns-in_err-note_cuts-clause-bytes c = c.requires.bytes
+
+pub returns-in_err-note_cuts-clause-stays : goal.returns-in_err-note_cuts-clause-stays
+returns-in_err-note_cuts-clause-stays c = c.in_err-note_cuts.ensures.stays
+
+pub returns-clause-kept : goal.returns-clause-kept
+returns-clause-kept c = c.sift.ensures.kept
+
+pub returns-clause-bytes : goal.returns-clause-bytes
+returns-clause-bytes c = c.sift.ensures.bytes
+
+pub returns-clause-stays : goal.returns-clause-stays
+returns-clause-stays c = c.in_ok-note_cuts.ensures.stays

@@ -1,4 +1,4 @@
-use Rattle.std.proofs.Common.{◌≡◌, ◌+◌, List, [], None, take, sym, subst, ap, ◌∙◌}
+use Rattle.std.proofs.Common.{◌≡◌, ◌+◌, List, [], None, take, refl, sym, subst, ap, ◌∙◌}
 use Rattle.std.specs.Prelude.{IsTrue, is_some}
 use Rattle.std.specs.FinMap.{find, from_sorted, get}
 use Rattle.khepri_terms.specs.Order.{path_cmp}
@@ -44,3 +44,24 @@ pub returns-clause-part : goal.returns-clause-part
 returns-clause-part c q same =
     let es = c.args.self.now.nodes.items in
     same ∙ ap (λ (U : Tree). get U q) (sym (c.in_ok-build.ensures.built ∙ ap (λ (y : Payload). set (from_sorted {R = path_cmp} es) c.args.path.now y) c.in_ok-copy.ensures))
+
+pub returns-in_err-copy-clause-kept : goal.returns-in_err-copy-clause-kept
+returns-in_err-copy-clause-kept c = c.requires.kept
+
+pub returns-in_err-copy-clause-bytes : goal.returns-in_err-copy-clause-bytes
+returns-in_err-copy-clause-bytes c = c.requires.bytes
+
+pub returns-in_err-copy-clause-part : goal.returns-in_err-copy-clause-part
+returns-in_err-copy-clause-part c = λ q e. refl
+
+pub returns-in_err-build-clause-kept : goal.returns-in_err-build-clause-kept
+returns-in_err-build-clause-kept c = c.in_err-build.ensures.kept
+
+pub returns-in_err-build-clause-bytes : goal.returns-in_err-build-clause-bytes
+returns-in_err-build-clause-bytes c = c.in_err-build.ensures.bytes
+
+pub returns-clause-kept : goal.returns-clause-kept
+returns-clause-kept c = c.in_ok-build.ensures.kept
+
+pub returns-clause-bytes : goal.returns-clause-bytes
+returns-clause-bytes c = c.in_ok-build.ensures.bytes

@@ -65,3 +65,9 @@ returns-clause-bytes c =
     let f : Finds p es i = subst (λ (ys : List Entry). Finds p ys i) c.as_slice.ensures.value c.in-Some.ensures.found in
     let was : c.index.result.now ≡ (p, f.0) = found_is es i _ c.index.result.now f.1 c.index.ensures in
     c.weighed-self.ensures es (p, f.0) c.give_watches.new.entry c.requires.bytes f.1 (c.node_len-gone.ensures ∙ ap (λ (e : Entry). capped (node_bytes e)) was) refl
+
+pub returns-in_err-watches-clause-kept : goal.returns-in_err-watches-clause-kept
+returns-in_err-watches-clause-kept c = c.requires.kept
+
+pub returns-in_err-watches-clause-bytes : goal.returns-in_err-watches-clause-bytes
+returns-in_err-watches-clause-bytes c = c.requires.bytes

@@ -1,4 +1,0 @@
-pub mod Executing
-pub mod Telling
-pub mod Taking
-pub mod Turns

@@ -1,0 +1,4 @@
+pub mod Executing
+pub mod Telling
+pub mod Taking
+pub mod Amid
