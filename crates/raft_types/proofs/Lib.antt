@@ -1,1 +1,11 @@
 pub mod Kept
+pub mod Compacts
+pub mod Nodes
+pub mod Commits
+pub mod Appends
+pub mod Installs
+pub mod Fitting
+pub mod FitsAfter
+pub mod Sends
+pub mod Writes
+pub mod SameNode
