@@ -1,5 +1,5 @@
 -- Logs that have the same first entries.
-use Rattle.std.proofs.Common.{◌≡◌, ◌⊎◌, inl, inr, ⊎_elim, ℕ, ◌<◌, ◌≤◌, List, length, take, get_or, refl, sym, ap, ◌∙◌, arith, take_all, take-take, get_or-take, length-take, length-take-le}
+use Rattle.std.proofs.Common.{◌≡◌, ◌⊎◌, inl, inr, ⊎_elim, ℕ, ◌<◌, ◌≤◌, List, length, take, get_or, refl, sym, ap, ◌∙◌, subst, arith, take_all, take-take, get_or-take, length-take, length-take-le}
 use Rattle.std.proofs.lemmas.Bool.{cases_lt}
 use Rattle.raft_types.specs.declared.entry.LogEntry.{LogEntry}
 use Rattle.raft_spine.specs.Logs.{SameFirst, IsFront}
@@ -39,3 +39,12 @@ fronts l p q ep eq = ⊎_elim
     (λ (x : length p < length q). inl (front_of (length p) (length q) l p q (omega arith) refl refl ep eq))
     (λ (x : length q ≤ length p). inr (front_of (length q) (length p) l q p x refl refl eq ep))
     (cases_lt (length p) (length q))
+
+-- a front of a front is one
+pub front_front : (n : ℕ) (p l : List LogEntry) → IsFront p l → IsFront (take n p) l
+front_front n p l e = ⊎_elim
+    (λ (x : n < length p).
+    let q = length-take-le n p (omega arith) in
+    ap (λ (k : ℕ). take k l) q ∙ (sym (take-take n (length p) l (omega arith)) ∙ ap (take n) e))
+    (λ (x : length p ≤ n). subst (λ (r : List LogEntry). IsFront r l) (sym (take_all n p x)) e)
+    (cases_lt n (length p))

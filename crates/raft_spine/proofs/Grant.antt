@@ -65,7 +65,7 @@ nonempty_has b s h t i bound bound' l c led own rl rc e some newer =
     newer)
     (cases_lt t u)
 
-last_term_is : (b : Start) (l : List LogEntry) → 0 < length l → last_term b l ≡ term_at l (length l - 1)
+pub last_term_is : (b : Start) (l : List LogEntry) → 0 < length l → last_term b l ≡ term_at l (length l - 1)
 last_term_is b [] h = absurd (omega arith)
 last_term_is b (x ∷ xs) h = ap (term_at (x ∷ xs)) (let e : length xs ≡ length (x ∷ xs) - 1 = omega arith in e)
 

@@ -1,16 +1,17 @@
 -- What is known stays known, and what is decided stays decided.
-use Rattle.std.proofs.Common.{◌≡◌, ◌≢◌, ℕ, suc, ◌≤◌, leb, List, [], ◌∷◌, length, take, Some, refl, sym, ap, ◌∙◌, arith, ◌⊎◌, inl, inr, ⊎_elim, take-take}
+use Rattle.std.proofs.Common.{◌≡◌, ◌≢◌, ℕ, suc, ◌≤◌, leb, List, [], ◌∷◌, length, take, Some, refl, sym, ap, ◌∙◌, subst, arith, ◌⊎◌, inl, inr, ⊎_elim, take-take, length-take}
 use Rattle.std.proofs.lemmas.Bool.{leb-true, le-leb}
 use Rattle.raft_types.specs.declared.entry.LogEntry.{LogEntry}
 use Rattle.raft_spine.specs.Logs.{SameFirst, IsFront}
 use Rattle.raft_spine.specs.Start.{Start}
-use Rattle.raft_spine.specs.Spine.{Spine}
+use Rattle.raft_spine.specs.Spine.{Spine, begin}
 use Rattle.raft_spine.specs.Moves.{Move, Raise, Stand, Grant, Lead, Put, Adopt, Agree, Can, moved, CanAll, moved_all}
 use Rattle.raft_spine.specs.Decided.{IsCommitted, IsCovered, Decided}
-use Rattle.raft_spine.specs.Laws.{Grows}
+use Rattle.raft_spine.specs.Laws.{IsReached, Grows}
 use Rattle.raft_spine.proofs.Sound.{Sound}
+use Rattle.raft_spine.proofs.Begin.{begin_sound}
 use Rattle.raft_spine.proofs.Quorum.{quorum_grows}
-use Rattle.raft_spine.proofs.Fronts.{agree_term, agree_long, whole, front_fits}
+use Rattle.raft_spine.proofs.Fronts.{agree_term, agree_long, whole, front_fits, front_front}
 use Rattle.raft_spine.proofs.At.{at_other, at2_other, at2_here, place}
 use Rattle.raft_spine.proofs.Votes.{vote_stays}
 use Rattle.raft_spine.proofs.Raise.{term_up}
@@ -19,7 +20,7 @@ use Rattle.raft_spine.proofs.Lead.{free_term}
 use Rattle.raft_spine.proofs.Put.{grown}
 use Rattle.raft_spine.proofs.Run.{move_sound}
 
-grows_same : (s : Spine) → Grows s s
+pub grows_same : (s : Spine) → Grows s s
 grows_same s = record {
   term = λ j. omega arith;
   voted = λ j t v. refl;
@@ -107,7 +108,7 @@ pub front_stays : (s s' : Spine) → Grows s s' → (t n : ℕ) → s.leader t �
     → SameFirst n (s'.leader_log t) (s.leader_log t)
 front_stays s s' g t n led le = sym (take-take n (length (s.leader_log t)) (s'.leader_log t) le) ∙ ap (take n) (g.leader_log t led)
 
-grows_both : (s s' s'' : Spine) → Grows s s' → Grows s' s'' → Grows s s''
+pub grows_both : (s s' s'' : Spine) → Grows s s' → Grows s' s'' → Grows s s''
 grows_both s s' s'' g h = record {
   term = λ j. let a = g.term j in let c = h.term j in omega arith;
   voted = λ j t v. h.voted j t (λ z. v (sym (g.voted j t v) ∙ z)) ∙ g.voted j t v;
@@ -124,6 +125,10 @@ moves_grow b low s h [] c = grows_same s
 moves_grow b low s h (m ∷ ms) c = grows_both s (moved m s) (moved_all ms (moved m s))
     (move_grows b s h m c.0)
     (moves_grow b low (moved m s) (move_sound b low s h m c.0) ms c.1)
+
+-- no node's term is below the one that all began in
+pub from_start : (b : Start) (s : Spine) (j : ℕ) → IsReached b s → b.term ≤ s.term j
+from_start b s j r = subst (λ (x : Spine). b.term ≤ x.term j) r.is ((moves_grow b r.start.low (begin b) (begin_sound b r.start) r.moves r.can).term j)
 
 committed_stays : (b : Start) (s s' : Spine) → Grows s s' → (t i : ℕ) → IsCommitted b s t i → IsCommitted b s' t i
 committed_stays b s s' g t i m =
@@ -151,6 +156,24 @@ decided_stays b s s' g u v p le d = record {
         committed = committed_stays b s s' g x.term x.place x.committed;
         short = x.short;
         front = front_stays s s' g x.term (length p) x.committed.led (omega arith) ∙ x.front;
+      }))
+      d.how;
+}
+
+-- a front of what is decided is decided
+pub decided_front : (b : Start) (s : Spine) (u n : ℕ) (p : List LogEntry) → Decided b s u p → Decided b s u (take n p)
+decided_front b s u n p d = record {
+  how = ⊎_elim
+      (λ (e : IsFront p b.log). inl (front_front n p b.log e))
+      (λ (x : IsCovered b s u p).
+      let y = x.short in let z = length-take n p in
+      inr (record {
+        term = x.term;
+        place = x.place;
+        up_to = x.up_to;
+        committed = x.committed;
+        short = omega arith;
+        front = front_front n p (s.leader_log x.term) x.front;
       }))
       d.how;
 }

@@ -14,4 +14,5 @@ pub mod Adopt
 pub mod Begin
 pub mod Run
 pub mod Grow
+pub mod Others
 pub mod Laws

@@ -32,11 +32,11 @@ module _ (b : Start) (s : Spine) (h : Sound b s) (k t : ℕ) (up : s.term k < t)
   raise_safe u i m l x = safe_stays b s.shared s.shared s.term (at s.term k t) u i m l term_up (λ j. inl refl) x
 
   -- the node did not stand in the term to which it comes
-  not_stood : (l : List LogEntry) → s.stood k t ≡ Some l → ⊥
+  pub not_stood : (l : List LogEntry) → s.stood k t ≡ Some l → ⊥
   not_stood l e = let c = h.candidates k t l e in c.is_node (sym c.own_vote ∙ h.voted_past k t up)
 
   -- nor was it elected in it
-  not_elected : k ≢ 0 → s.leader t ≡ k → ⊥
+  pub not_elected : k ≢ 0 → s.leader t ≡ k → ⊥
   not_elected nz e =
       let el = h.elected t (λ z. nz (sym e ∙ z)) in
       let o = elected_stood b s h (s.leader t) t (λ z. nz (sym e ∙ z)) el.late el.votes in

@@ -31,11 +31,11 @@ moves_sound b low s h (m ∷ ms) c = moves_sound b low (moved m s) (move_sound b
 pub reached_sound : (b : Start) (s : Spine) → IsReached b s → Sound b s
 reached_sound b s r = subst (Sound b) r.is (moves_sound b r.start.low (begin b) (begin_sound b r.start) r.moves r.can)
 
-can_both : (b : Start) (s : Spine) (ms ns : List Move) → CanAll b s ms → CanAll b (moved_all ms s) ns → CanAll b s (ms ++ ns)
+pub can_both : (b : Start) (s : Spine) (ms ns : List Move) → CanAll b s ms → CanAll b (moved_all ms s) ns → CanAll b s (ms ++ ns)
 can_both b s [] ns c d = d
 can_both b s (m ∷ ms) ns c d = (c.0, can_both b (moved m s) ms ns c.1 d)
 
-moved_both : (s : Spine) (ms ns : List Move) → moved_all (ms ++ ns) s ≡ moved_all ns (moved_all ms s)
+pub moved_both : (s : Spine) (ms ns : List Move) → moved_all (ms ++ ns) s ≡ moved_all ns (moved_all ms s)
 moved_both s [] ns = refl
 moved_both s (m ∷ ms) ns = moved_both (moved m s) ms ns
 

@@ -120,6 +120,16 @@ pub data Move : Type 0 where
   Adopt : (k n : ℕ) → Move
   Agree : (k n : ℕ) → Move
 
+-- the node that makes the move
+abbrev pub actor : Move → ℕ
+actor (Raise k t) = k
+actor (Stand k) = k
+actor (Grant j k) = j
+actor (Lead k) = k
+actor (Put k e) = k
+actor (Adopt k n) = k
+actor (Agree k n) = k
+
 -- the move may be made
 abbrev pub Can : Start → Spine → Move → Type 0
 Can b s (Raise k t) = Rises s k t
