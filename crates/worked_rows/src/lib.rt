@@ -3,6 +3,10 @@
 #![tactic(auto)]
 
 #[cfg(test)]
+mod core_steps;
+#[cfg(test)]
+mod cores;
+#[cfg(test)]
 mod cut_lines;
 #[cfg(test)]
 mod firsts;
