@@ -1,0 +1,4 @@
+pub mod Claims
+pub mod Tied
+pub mod Events
+pub mod Laws
