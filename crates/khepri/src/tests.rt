@@ -1,5 +1,4 @@
 // Whole runs over memory.
-mod tables;
 
 ghost use Rattle.std.specs.Prelude.{Some};
 
@@ -8,7 +7,6 @@ use line_io::{Failed, MemSink, MemSource, Sink, Source};
 use session_core::Status;
 use std::alloc::{AllocError, Global};
 use std::test::Fail;
-use tables::{SUBJECTS, Sessions, sessions_of};
 
 // A source in memory; a slow one gives one byte a call.
 #[derive(Drop)]
@@ -60,12 +58,6 @@ struct Way {
 
 const FAST: Way = Way {
     is_slow: false,
-    failing_take: 0,
-    failing_put: 0,
-};
-
-const SLOW: Way = Way {
-    is_slow: true,
     failing_take: 0,
     failing_put: 0,
 };
@@ -144,46 +136,6 @@ fn first_wrong_line(ran: &Ran, output: &[u8]) -> Option<usize> {
         Some(written) if ran.status == Status::Ended => first_other_line(written, output),
         _ => Some(0),
     }
-}
-
-// The first session that goes wrong, and the line of its output.
-fn first_wrong(
-    alloc: Global,
-    sessions: Sessions,
-    way: Way,
-) -> Result<Option<(usize, usize)>, AllocError> {
-    for (i, (input, output)) in sessions.iter().enumerate() {
-        let ran = session(alloc, input, way)?;
-        if let Some(line) = first_wrong_line(&ran, output) {
-            return Ok(Some((i, line)));
-        }
-    }
-    Ok(None)
-}
-
-// The subject of the first session that goes wrong, its place there, and the line of its output.
-fn first_wrong_session(
-    alloc: Global,
-    way: Way,
-) -> Result<Option<(usize, usize, usize)>, AllocError> {
-    for subject in 0..SUBJECTS {
-        if let Some((i, line)) = first_wrong(alloc, sessions_of(subject), way)? {
-            return Ok(Some((subject, i, line)));
-        }
-    }
-    Ok(None)
-}
-
-#[test]
-fn lines_are_answered(rt: HostRuntime) -> Result<(), Fail> {
-    assert_eq!(rt; first_wrong_session(rt.alloc(), FAST)?, None);
-    Ok(())
-}
-
-#[test]
-fn lines_are_answered_byte_by_byte(rt: HostRuntime) -> Result<(), Fail> {
-    assert_eq!(rt; first_wrong_session(rt.alloc(), SLOW)?, None);
-    Ok(())
 }
 
 static LINES: &[u8] =
@@ -358,49 +310,6 @@ fn first_known_words(alloc: Global) -> Result<Option<usize>, AllocError> {
 #[test]
 fn other_words_get_the_usage_line(rt: HostRuntime) -> Result<(), Fail> {
     assert_eq!(rt; first_known_words(rt.alloc())?, None);
-    Ok(())
-}
-
-// Lines of so many bytes, with their ends, and the answer to each.
-static LONG_LINES: [(usize, &str, &str); 7] = [
-    (16_384, "\n", "! 1 leads 1\n- 1 badline\n"),
-    (16_384, "\r\n", "! 1 leads 1\n- 1 badline\n"),
-    (16_384, "", "! 1 leads 1\n- 1 badline\n"),
-    (16_385, "\n", "! 1 leads 1\n- 1 toolong\n"),
-    (16_385, "\r\n", "! 1 leads 1\n- 1 toolong\n"),
-    (16_385, "", "! 1 leads 1\n- 1 toolong\n"),
-    (200_000, "\n", "! 1 leads 1\n- 1 toolong\n"),
-];
-
-fn long_line(alloc: Global, length: usize, ending: &str) -> Result<Vec<u8>, AllocError> {
-    let mut line = vec![in alloc; b'x'; length]?;
-    line.extend_from_slice(ending.as_bytes())?;
-    Ok(line)
-}
-
-fn is_refused(
-    alloc: Global,
-    length: usize,
-    ending: &str,
-    answer: &str,
-) -> Result<bool, AllocError> {
-    let line = long_line(alloc, length, ending)?;
-    Ok(session(alloc, line.as_slice(), FAST)?.is(Status::Ended, answer.as_bytes()))
-}
-
-// The first of the long lines that gets another answer.
-fn first_wrong_length(alloc: Global) -> Result<Option<usize>, AllocError> {
-    for (i, (length, ending, answer)) in LONG_LINES.iter().enumerate() {
-        if !is_refused(alloc, *length, ending, answer)? {
-            return Ok(Some(i));
-        }
-    }
-    Ok(None)
-}
-
-#[test]
-fn long_lines_are_refused(rt: HostRuntime) -> Result<(), Fail> {
-    assert_eq!(rt; first_wrong_length(rt.alloc())?, None);
     Ok(())
 }
 
