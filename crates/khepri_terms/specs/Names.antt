@@ -1,5 +1,6 @@
 -- How names are spelled.
 use Rattle.std.specs.Prelude.{◌≡◌, ℕ, ◌<◌, ◌≤◌, Bool, false, ◌&&◌, ◌||◌, ◌==◌, if◌then◌else◌, List, [], ◌∷◌, ◌++◌, length, drop, Option, Some, None}
+use Rattle.khepri_terms.specs.declared.limits.TheConstants.{MAX_NAME}
 use Rattle.khepri_terms.specs.declared.name.Kind.{Kind}
 use Rattle.khepri_terms.specs.declared.name.Kind.TheVariants.{Atom, Text}
 use Rattle.khepri_terms.specs.Terms.{NameText}
@@ -19,7 +20,7 @@ name_text bytes = if is_dots bytes then 37 ∷ 50 ∷ 69 ∷ drop 1 bytes else b
 -- the bytes of a name: 1 to 255
 pub record IsNameBytes (name : List ℕ) : Type 0 where
   pub low : 0 < length name
-  pub high : length name ≤ 255
+  pub high : length name ≤ MAX_NAME
   pub bytes : AreBytes name
 
 abbrev pub IsName : NameText → Type 0
@@ -55,10 +56,10 @@ undotted (b ∷ bytes, rest) = if is_dots (b ∷ bytes) then None else Some (b �
 
 -- the bytes of the longest name that is spelled at the front, and what is after it
 unfoldable pub name_at : List ℕ → Option (List ℕ × List ℕ)
-name_at [] = undotted (bytes_at 255 [])
-name_at (a ∷ []) = undotted (bytes_at 255 (a ∷ []))
-name_at (a ∷ b ∷ []) = undotted (bytes_at 255 (a ∷ b ∷ []))
-name_at (a ∷ b ∷ c ∷ text) = if a == 37 && b == 50 && c == 69 then Some (dots_at text) else undotted (bytes_at 255 (a ∷ b ∷ c ∷ text))
+name_at [] = undotted (bytes_at MAX_NAME [])
+name_at (a ∷ []) = undotted (bytes_at MAX_NAME (a ∷ []))
+name_at (a ∷ b ∷ []) = undotted (bytes_at MAX_NAME (a ∷ b ∷ []))
+name_at (a ∷ b ∷ c ∷ text) = if a == 37 && b == 50 && c == 69 then Some (dots_at text) else undotted (bytes_at MAX_NAME (a ∷ b ∷ c ∷ text))
 
 -- bytes as a name of this kind
 abbrev pub named : Kind → Option (List ℕ × List ℕ) → Option (NameText × List ℕ)

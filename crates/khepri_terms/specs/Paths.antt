@@ -1,6 +1,7 @@
 -- How paths are spelled.
 use Rattle.std.specs.Prelude.{◌≡◌, ℕ, ◌-◌, ◌≤◌, Bool, false, ◌||◌, ◌==◌, if◌then◌else◌, List, [], ◌∷◌, ◌++◌, length, take, drop, Option, Some, None}
 use Rattle.std.specs.List.{flat_map, AllByRecursion}
+use Rattle.khepri_terms.specs.declared.limits.TheConstants.{MAX_PATH_TEXT, MAX_SPELLED_NAMES}
 use Rattle.khepri_terms.specs.Terms.{NameText}
 use Rattle.khepri_terms.specs.Many.{many}
 use Rattle.khepri_terms.specs.Bytes.{is_plain}
@@ -18,7 +19,7 @@ path_text (n ∷ ns) = flat_map step_text (n ∷ ns)
 -- a path that has a spelling
 pub record IsPath (path : List NameText) : Type 0 where
   pub names : AllByRecursion IsName path
-  pub short : length (path_text path) ≤ 1024
+  pub short : length (path_text path) ≤ MAX_PATH_TEXT
 
 -- a byte that may go on with a path
 abbrev pub goes_on : ℕ → Bool
@@ -41,12 +42,12 @@ names_at = many step_at
 -- the names that were read of the first bytes of a text, and the text behind them
 abbrev pub path_of : List ℕ → List NameText × List ℕ → List NameText × List ℕ
 path_of text ([], rest) = ([], drop 1 text)
-path_of text (n ∷ ns, rest) = (n ∷ ns, drop (length (take 1024 text) - length rest) text)
+path_of text (n ∷ ns, rest) = (n ∷ ns, drop (length (take MAX_PATH_TEXT text) - length rest) text)
 
--- the longest path that is spelled at the front, and what is after it; 1,024 bytes have at most 512 names
+-- the longest path that is spelled at the front, and what is after it
 unfoldable pub path_at : List ℕ → Option (List NameText × List ℕ)
 path_at [] = None
-path_at (b ∷ text) = if b == 47 then Some (path_of (b ∷ text) (names_at 512 (take 1024 (b ∷ text)))) else None
+path_at (b ∷ text) = if b == 47 then Some (path_of (b ∷ text) (names_at MAX_SPELLED_NAMES (take MAX_PATH_TEXT (b ∷ text)))) else None
 
 -- the text begins with the spelling of this path, and no longer front of it spells a path
 pub record LongestPath (text : List ℕ) (path : List NameText) (rest : List ℕ) : Type 0 where

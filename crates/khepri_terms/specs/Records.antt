@@ -5,6 +5,7 @@ use Rattle.std.specs.Ordering.{nat_cmp, is_lt, match_ordering}
 use Rattle.std.specs.Cmp.Lexicographic.{slice_cmp, pointwise}
 use Rattle.std.specs.List.{AllByRecursion}
 use lib.Signed.{mag}
+use Rattle.khepri_terms.specs.declared.limits.TheConstants.{MAX_TEXT, MAX_FIELDS, MAX_REC_TEXT}
 use Rattle.khepri_terms.specs.declared.scalar.Scalar.{Scalar}
 use Rattle.khepri_terms.specs.declared.scalar.Scalar.TheVariants.{Int, Text}
 use Rattle.khepri_terms.specs.declared.rec.Field.{Field}
@@ -26,7 +27,7 @@ IsValue (Text bytes) = AreBytes bytes
 -- a scalar that has a spelling: an integer of 64 bits, or at most 4,096 bytes
 abbrev pub IsScalar : Scalar → Type 0
 IsScalar (Int z) = mag z < 2 ^ 63
-IsScalar (Text bytes) = (length bytes ≤ 4096) × AreBytes bytes
+IsScalar (Text bytes) = (length bytes ≤ MAX_TEXT) × AreBytes bytes
 
 -- the key, `=` and the value
 unfoldable pub field_text : Field → List ℕ
@@ -57,8 +58,8 @@ keys_rise (f ∷ g ∷ fs) = is_lt (slice_cmp nat_cmp f.key g.key) && keys_rise 
 pub record IsRec (fs : List Field) : Type 0 where
   pub fields : AllByRecursion IsField fs
   pub rises : keys_rise fs ≡ true
-  pub few : length fs ≤ 64
-  pub short : length (rec_text fs) ≤ 4096
+  pub few : length fs ≤ MAX_FIELDS
+  pub short : length (rec_text fs) ≤ MAX_REC_TEXT
 
 abbrev pub int_of : Option (ℤ × List ℕ) → Option (Scalar × List ℕ)
 int_of None = None
@@ -70,7 +71,7 @@ text_of x = (Text x.0, x.1)
 -- the scalar that is spelled at the front, and what is after it
 unfoldable pub scalar_at : List ℕ → Option (Scalar × List ℕ)
 scalar_at [] = None
-scalar_at (b ∷ text) = if b == 39 then Some (text_of (bytes_at 4096 text)) else int_of (int_at (b ∷ text))
+scalar_at (b ∷ text) = if b == 39 then Some (text_of (bytes_at MAX_TEXT text)) else int_of (int_at (b ∷ text))
 
 -- the scalar behind a `=`
 unfoldable pub value_at : List ℕ → Option (Scalar × List ℕ)
@@ -102,7 +103,7 @@ fields_at (suc n) text = field_at text >>= λ f. end_at f.1 >>= λ e. if e.0 the
 -- the fields behind a `{` to the `}`
 unfoldable pub inner_at : List ℕ → Option (List Field × List ℕ)
 inner_at [] = None
-inner_at (b ∷ text) = if b == 125 then Some ([], text) else fields_at 64 (b ∷ text)
+inner_at (b ∷ text) = if b == 125 then Some ([], text) else fields_at MAX_FIELDS (b ∷ text)
 
 -- the fields from a `{` to the `}`
 unfoldable pub opened_at : List ℕ → Option (List Field × List ℕ)
@@ -111,7 +112,7 @@ opened_at (b ∷ text) = if b == 123 then inner_at text else None
 
 -- the fields are a record, and no more than 4,096 bytes of the text were taken
 unfoldable pub checked : List ℕ → List Field × List ℕ → Option (List Field × List ℕ)
-checked text x = if keys_rise x.0 && nat_le (length text - length x.1) 4096 then Some x else None
+checked text x = if keys_rise x.0 && nat_le (length text - length x.1) MAX_REC_TEXT then Some x else None
 
 -- the record that is spelled at the front, and what is after it
 unfoldable pub rec_at : List ℕ → Option (List Field × List ℕ)
@@ -129,7 +130,7 @@ with_field new (f ∷ fs) = match_ordering (slice_cmp nat_cmp new.key f.key) (ne
 
 -- the limits of a record
 unfoldable pub is_small : List Field → Bool
-is_small fs = nat_le (length fs) 64 && nat_le (length (rec_text fs)) 4096
+is_small fs = nat_le (length fs) MAX_FIELDS && nat_le (length (rec_text fs)) MAX_REC_TEXT
 
 -- the text begins with the spelling of this record, and of no other
 pub record OnlyRec (text : List ℕ) (fs : List Field) (rest : List ℕ) : Type 0 where

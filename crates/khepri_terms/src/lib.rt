@@ -6,6 +6,7 @@
 mod bytes;
 mod fault;
 pub mod laws;
+pub mod limits;
 mod name;
 pub mod numbers;
 mod path;
@@ -15,7 +16,7 @@ pub mod texts;
 
 pub use bytes::Bytes;
 pub use fault::{NameFault, RecFault, TextFault};
-pub use name::{Kind, MAX_NAME, Name};
-pub use path::{MAX_PATH_TEXT, Path};
-pub use rec::{Field, MAX_FIELDS, MAX_REC_TEXT, Rec};
+pub use name::{Kind, Name};
+pub use path::Path;
+pub use rec::{Field, Rec};
 pub use scalar::Scalar;

@@ -4,12 +4,14 @@ ghost use Rattle.std.specs.Cmp.{partial_order_from_own_ties};
 ghost use Rattle.std.specs.Cmp.Rules.{comparing, hashing};
 ghost use Rattle.std.specs.Ordering.{as_partial_cmp};
 ghost use Rattle.std.specs.Hash as fed;
+ghost use Rattle.khepri_terms.specs.declared.limits.TheConstants.{MAX_NAME};
 ghost use Rattle.khepri_terms.specs.Names.{IsNameBytes, IsName, comp_text, name_at, named, comp_at};
 ghost use Rattle.khepri_terms.specs.Order.{rank, name_fed, name_cmp, name_eq};
 
 use crate::bytes::Bytes;
 use crate::fault::{NameFault, TextFault};
-use crate::texts::{name_len, print_name, read_name};
+use crate::limits::MAX_NAME;
+use crate::texts::{keep_whole, name_len, print_name, read_name};
 use std::alloc::{AllocError, Global};
 use std::cmp::Ordering;
 use std::hash::{Hash, Hasher};
@@ -34,9 +36,6 @@ impl Kind {
     }
 }
 
-/// How many bytes a name has at most.
-pub const MAX_NAME: usize = 255;
-
 /// A kind and 1 to 255 bytes.
 #[derive(Drop)]
 pub struct Name {
@@ -60,7 +59,7 @@ impl Name {
     pub fn new(alloc: Global, kind: Kind, bytes: &[u8]) -> Result<Name, NameFault>
         ensures ok { IfOk result (λ n. n ≡ record { kind = kind; bytes = bytes.now }) }
         ensures empty { (result ≡ Err NameFault.Empty) ↔ (length bytes.now ≡ 0) }
-        ensures long { (result ≡ Err NameFault.Long) ↔ (255 < length bytes.now) }
+        ensures long { (result ≡ Err NameFault.Long) ↔ (MAX_NAME < length bytes.now) }
     {
         if bytes.len() == 0 {
             return Err(NameFault::Empty);
@@ -115,10 +114,7 @@ impl Name {
     {
         let len = out.len();
         let printed = self.append(out);
-        if printed.is_err() {
-            out.truncate(len);
-        }
-        printed
+        keep_whole(printed, len, out)
     }
 
     // Appends the spelling; after want of memory what was there before still stands at the front.

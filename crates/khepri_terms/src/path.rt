@@ -5,6 +5,7 @@ ghost use Rattle.std.specs.Cmp.{partial_order_from_own_ties};
 ghost use Rattle.std.specs.Cmp.Rules.{comparing};
 ghost use Rattle.std.specs.Ordering.{as_partial_cmp};
 ghost use Rattle.std.specs.List.{AllByRecursion, flat_map};
+ghost use Rattle.khepri_terms.specs.declared.limits.TheConstants.{MAX_SPELLED_NAMES};
 ghost use Rattle.khepri_terms.specs.Lengths.{capped};
 ghost use Rattle.khepri_terms.specs.Names.{IsName};
 ghost use Rattle.khepri_terms.specs.Paths.{step_text, path_text, step_at, names_at, path_at, LongestPath, BeginsNoPath};
@@ -12,17 +13,13 @@ ghost use Rattle.khepri_terms.specs.Order.{name_fed, path_cmp, path_eq};
 ghost use Rattle.std.specs.Hash as fed;
 
 use crate::fault::TextFault;
+use crate::limits::{MAX_PATH_TEXT, MAX_SPELLED_NAMES};
 use crate::name::Name;
+use crate::texts::keep_whole;
 use std::alloc::{AllocError, Global};
 use std::cmp::Ordering;
 use std::hash::{Hash, Hasher};
 use std::marker::Model;
-
-/// How many bytes of text a path has at most.
-pub const MAX_PATH_TEXT: usize = 1024;
-
-// How many names 1,024 bytes of text have at most.
-const MAX_PATH_NAMES: usize = 512;
 
 /// A list of names; the root is the empty one.
 #[derive(Drop)]
@@ -105,10 +102,7 @@ impl Path {
     {
         let len = out.len();
         let printed = print_names(self.names.as_slice(), out);
-        if printed.is_err() {
-            out.truncate(len);
-        }
-        printed
+        keep_whole(printed, len, out)
     }
 
     /// How long the spelling is, at most `usize::MAX`.
@@ -238,12 +232,12 @@ fn read_step(alloc: Global, text: &[u8]) -> Result<(Name, &[u8]), TextFault>
 
 // As many names as stand at the front, each behind a slash, and what is after them.
 fn read_names(alloc: Global, text: &[u8]) -> Result<(Vec<Name>, &[u8]), AllocError>
-    ensures value { IfOk result (λ x. names_at 512 text.now ≡ (x.0.items, x.1.now)) }
+    ensures value { IfOk result (λ x. names_at MAX_SPELLED_NAMES text.now ≡ (x.0.items, x.1.now)) }
     ensures within { IfOk result (λ x. length x.1.now ≤ length text.now) }
 {
     let mut names = Vec::new(alloc);
     let mut rest = text;
-    'names: while names.len() < MAX_PATH_NAMES {
+    'names: while names.len() < MAX_SPELLED_NAMES {
         match read_step(alloc, rest) {
             Ok((name, after)) => {
                 names.push(name)?;

@@ -3,6 +3,7 @@ ghost use Rattle.std.proofs.Common.{rules};
 ghost use Rattle.std.specs.Cmp.{partial_equiv_from_equiv, po};
 ghost use Rattle.std.specs.Ordering.{as_partial_cmp};
 ghost use Rattle.std.specs.Hash as fed;
+ghost use Rattle.khepri_terms.specs.declared.limits.TheConstants.{MAX_FIELDS, MAX_REC_TEXT};
 ghost use Rattle.khepri_terms.specs.Order.{field_cmp, field_eq, field_fed, rec_cmp, rec_eq};
 ghost use Rattle.khepri_terms.specs.OrderLaws.{field_equivalence, field_total, field_ties, field_feeds, rec_equivalence, rec_total, rec_ties, rec_feeds};
 ghost use Rattle.khepri_terms.specs.Records.{field_text, fields_text, rec_text, keys_rise, value_at, field_at, end_at, fields_at, inner_at, opened_at, rec_at, field_of, with_field, is_small, IsRec, OnlyRec, BeginsNoRec};
@@ -11,19 +12,14 @@ ghost use Rattle.std.specs.Option.{option_copied};
 
 use crate::bytes::Bytes;
 use crate::fault::{RecFault, TextFault};
+use crate::limits::{MAX_FIELDS, MAX_REC_TEXT};
 use crate::name::{Kind, Name};
 use crate::scalar::Scalar;
-use crate::texts::{name_len, print_name, read_name};
+use crate::texts::{keep_whole, name_len, print_name, read_name};
 use std::alloc::{AllocError, Global};
 use std::cmp::Ordering;
 use std::hash::{Hash, Hasher};
 use std::marker::Model;
-
-/// How many fields a record has at most.
-pub const MAX_FIELDS: usize = 64;
-
-/// How many bytes of text a record has at most.
-pub const MAX_REC_TEXT: usize = 4096;
 
 /// A key, which is the bytes of a Text name, and its value.
 #[derive(Drop)]
@@ -170,10 +166,7 @@ impl Rec {
     {
         let len = out.len();
         let printed = print_fields(self.fields.as_slice(), out);
-        if printed.is_err() {
-            out.truncate(len);
-        }
-        printed
+        keep_whole(printed, len, out)
     }
 
     /// How long the spelling is.
@@ -181,7 +174,7 @@ impl Rec {
     pub fn text_len(&self) -> usize
         ensures len { result ≡ length (rec_text self.now) }
         ensures is { IsRec self.now }
-        ensures small { result ≤ 4096 }
+        ensures small { result ≤ MAX_REC_TEXT }
     {
         fields_len(self.fields.as_slice()) + 2
     }
@@ -340,8 +333,8 @@ fn read_end(text: &[u8]) -> Result<(bool, &[u8]), TextFault>
 
 // The fields to the end of the record, at least one, and what is after it.
 fn read_fields(alloc: Global, text: &[u8]) -> Result<(Vec<Field>, &[u8]), TextFault>
-    ensures value { IfOk result (λ x. fields_at 64 text.now ≡ Some (x.0.items, x.1.now)) }
-    ensures bad { result ≡ Err TextFault.Bad → fields_at 64 text.now ≡ None }
+    ensures value { IfOk result (λ x. fields_at MAX_FIELDS text.now ≡ Some (x.0.items, x.1.now)) }
+    ensures bad { result ≡ Err TextFault.Bad → fields_at MAX_FIELDS text.now ≡ None }
 {
     let mut fields = Vec::new(alloc);
     let mut rest = text;

@@ -10,8 +10,9 @@ ghost use Rattle.khepri_terms.specs.Records.{IsValue, scalar_text, scalar_at};
 
 use crate::bytes::Bytes;
 use crate::fault::TextFault;
+use crate::limits::MAX_TEXT;
 use crate::numbers::read_int;
-use crate::texts::{bytes_len, print_bytes, read_bytes};
+use crate::texts::{bytes_len, keep_whole, print_bytes, read_bytes};
 use itoa::Buffer;
 use std::alloc::{AllocError, Global};
 use std::cmp::Ordering;
@@ -34,7 +35,7 @@ impl Scalar {
         match text {
             [] => Err(TextFault::Bad),
             [b'\'', bytes @ ..] => {
-                let (bytes, rest) = read_bytes(alloc, bytes, 4096)?;
+                let (bytes, rest) = read_bytes(alloc, bytes, MAX_TEXT)?;
                 Ok((Scalar::Text(Bytes::from_vec(alloc, bytes)), rest))
             }
             [_, ..] => match read_int(text) {
@@ -51,10 +52,7 @@ impl Scalar {
     {
         let len = out.len();
         let printed = self.append(out);
-        if printed.is_err() {
-            out.truncate(len);
-        }
-        printed
+        keep_whole(printed, len, out)
     }
 
     // Appends the spelling; after want of memory what was there before still stands at the front.

@@ -2,13 +2,31 @@
 //! front and what is after it, a printer appends the spelling. After want of memory a printer of this crate alone
 //! may leave a part behind what was there before.
 ghost use Rattle.std.specs.Prelude.{◌≡◌, ◌++◌, ◌<◌, take, length, Some, None, MatchOption, IfSome, OnOk, OnErr, IfOk, Err};
+ghost use Rattle.khepri_terms.specs.declared.limits.TheConstants.{MAX_NAME};
 ghost use Rattle.khepri_terms.specs.Lengths.{capped};
 ghost use Rattle.khepri_terms.specs.Names.{IsNameBytes, is_dots, name_text, dots_at, undotted, name_at};
 ghost use Rattle.khepri_terms.specs.Bytes.{is_plain, byte_text, bytes_text, hex_value, escape_at, byte_at, bytes_at};
 
 use crate::fault::TextFault;
+use crate::limits::MAX_NAME;
 use percent_encoding::percent_encode_byte;
 use std::alloc::{AllocError, Global};
+
+/// Ends a print that began where `out` held `len` bytes: after want of memory these alone stay.
+pub fn keep_whole(
+    printed: Result<(), AllocError>,
+    len: usize,
+    out: &mut Vec<u8>,
+) -> Result<(), AllocError>
+    ensures same { result ≡ printed }
+    ensures ok { OnOk printed (out.new.items ≡ out.old.items) }
+    ensures err { OnErr printed (out.new.items ≡ take len out.old.items) }
+{
+    if printed.is_err() {
+        out.truncate(len);
+    }
+    printed
+}
 
 #[tactic(auto, unfolding(crate::specs::Bytes::is_plain))]
 fn is_plain_byte(b: u8) -> bool
@@ -135,11 +153,11 @@ fn is_dots(name: &[u8]) -> bool
 
 // The bytes of the name at the front that stands as it is, and what is after it.
 fn read_undotted(alloc: Global, text: &[u8]) -> Result<(Vec<u8>, &[u8]), TextFault>
-    ensures value { IfOk result (λ x. undotted (bytes_at 255 text.now) ≡ Some (x.0.items, x.1.now)) }
+    ensures value { IfOk result (λ x. undotted (bytes_at MAX_NAME text.now) ≡ Some (x.0.items, x.1.now)) }
     ensures name { IfOk result (λ x. IsNameBytes x.0.items) }
-    ensures bad { result ≡ Err TextFault.Bad → undotted (bytes_at 255 text.now) ≡ None }
+    ensures bad { result ≡ Err TextFault.Bad → undotted (bytes_at MAX_NAME text.now) ≡ None }
 {
-    let (bytes, rest) = read_bytes(alloc, text, 255)?;
+    let (bytes, rest) = read_bytes(alloc, text, MAX_NAME)?;
     if bytes.len() == 0 || is_dots(bytes.as_slice()) {
         return Err(TextFault::Bad);
     }
