@@ -1,9 +1,6 @@
 //! The forms of numbers.
-ghost use Rattle.std.specs.Prelude.{◌≡◌, ◌++◌, OnOk, OnErr, decimal, Some, None, MatchOption, IfSome, ◌≤◌};
+ghost use Rattle.std.specs.Prelude.{◌≡◌, Some, None, MatchOption, IfSome, ◌≤◌};
 ghost use Rattle.khepri_terms.specs.Numbers.{number_from, number_at, int_at};
-
-use itoa::Buffer;
-use std::alloc::AllocError;
 
 // The number so far and the digits at the front, none past the greatest, and what is after them.
 #[tactic(auto, unfolding(crate::specs::Numbers::number_from))]
@@ -58,13 +55,4 @@ pub fn read_int(text: &[u8]) -> Option<(i64, &[u8])>
         }
         [] => None,
     }
-}
-
-/// Appends a number; where memory is wanting, nothing.
-pub fn print_number(number: u64, out: &mut Vec<u8>) -> Result<(), AllocError>
-    ensures ok { OnOk result (out.new.items ≡ out.old.items ++ decimal number) }
-    ensures err { OnErr result (out.new.items ≡ out.old.items) }
-{
-    let mut digits = Buffer::new();
-    out.extend_from_slice(digits.format(number).as_bytes())
 }

@@ -1,4 +1,4 @@
-ghost use Rattle.std.specs.Prelude.{◌≡◌, [], ◌∷◌, ◌++◌, ◌↔◌, IsTrue, ◌-◌, ◌+◌, ◌<◌, ◌≤◌, length, take, drop, slice_get, IfOk, OnOk, true, false, OnErr, Err, Some, None, MatchOption};
+ghost use Rattle.std.specs.Prelude.{◌≡◌, [], ◌∷◌, ◌++◌, ◌↔◌, IsTrue, ◌-◌, ◌+◌, ◌<◌, ◌≤◌, length, take, drop, IfOk, OnOk, true, false, OnErr, Err, Some, None, MatchOption};
 ghost use Rattle.std.proofs.Common.{rules};
 ghost use Rattle.std.specs.Cmp.{partial_equiv_from_equiv, po};
 ghost use Rattle.std.specs.Ordering.{as_partial_cmp};
@@ -149,14 +149,6 @@ impl Rec {
         ensures is { IsRec self.now }
     {
         self.fields.len()
-    }
-
-    /// The field at a place, by rising key.
-    pub fn field_at(&self, i: usize) -> &Field
-        requires { i < length self.now }
-        ensures { slice_get self.now i ≡ Some result.now }
-    {
-        &self.fields[i]
     }
 
     /// Appends the spelling; where memory is wanting, nothing.
