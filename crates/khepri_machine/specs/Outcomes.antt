@@ -1,15 +1,15 @@
 -- What a command comes to.
-use Rattle.std.specs.Prelude.{◌≡◌, ◌+◌, ⊤}
+use Rattle.std.specs.Prelude.{◌≡◌, ⊤}
 use Rattle.khepri_types.specs.declared.reply.Reply.{Reply}
-use Rattle.khepri_types.specs.Exec.{State, refused}
+use Rattle.khepri_types.specs.Exec.{State, applied, refused}
 use Rattle.khepri_types.specs.Tree.{Tree}
 use Rattle.khepri_machine.specs.declared.outcome.Outcome.{Outcome}
 use Rattle.khepri_machine.specs.declared.outcome.Outcome.TheVariants.{Same, Changed}
 
 -- the reply, and the state that follows
-abbrev pub ended : State → Outcome → Reply × State
-ended S (Same r) = refused S r
-ended S (Changed r c) = (r, record { tree = c.tree; position = S.position + 1 })
+abbrev pub reply_and_next : State → Outcome → Reply × State
+reply_and_next S (Same r) = refused S r
+reply_and_next S (Changed r c) = (r, applied S c.tree)
 
 -- a draft that takes this tree's place began from it
 abbrev pub IsOver : Tree → Outcome → Type 0

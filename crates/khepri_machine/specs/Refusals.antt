@@ -4,8 +4,8 @@ use Rattle.khepri_terms.specs.Terms.{NameText}
 use Rattle.khepri_types.specs.declared.reply.Reply.{Reply}
 use Rattle.khepri_types.specs.declared.reply.Reply.TheVariants.{NoRoot, NoDeep}
 use Rattle.khepri_types.specs.declared.watch.Watching.{Watching}
-use Rattle.khepri_types.specs.Watching.{is_deep, watches_root, has_deep_target}
+use Rattle.khepri_types.specs.Watching.{is_deep, gives_root_watches, has_deep_target}
 
 -- what refuses each command that writes the node at the path, whatever stands there
 abbrev pub unwritable : List NameText → Watching → Option Reply
-unwritable p w = if watches_root p w then Some NoRoot else (if is_deep p || has_deep_target w then Some NoDeep else None)
+unwritable p w = if gives_root_watches p w then Some NoRoot else (if is_deep p || has_deep_target w then Some NoDeep else None)

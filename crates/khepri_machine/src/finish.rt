@@ -2,11 +2,11 @@
 ghost use Rattle.std.specs.Prelude.{◌≡◌, IfOk, OnOk, IsTrue};
 ghost use Rattle.std.specs.Option.{option_copied, option_map};
 ghost use Rattle.std.specs.FinMap.{get};
-ghost use Rattle.khepri_types.specs.Exec.{State, pv_of, settled, wrote};
+ghost use Rattle.khepri_types.specs.Exec.{State, pv_of, settle_within_limits, finish_write};
 ghost use Rattle.khepri_types.specs.Sizes.{fits};
 ghost use Rattle.khepri_types.specs.Tree.{stands};
 ghost use Rattle.khepri_types.specs.Watching.{unmet_of, watch};
-ghost use Rattle.khepri_machine.specs.Outcomes.{ended, IsOver};
+ghost use Rattle.khepri_machine.specs.Outcomes.{reply_and_next, IsOver};
 
 use crate::outcome::Outcome;
 use keep_while::{first_unmet, settle};
@@ -43,12 +43,12 @@ fn fits(draft: &Draft) -> bool
 }
 
 // The draft settles, and takes the tree's place unless it passes a limit. The reply has this number.
-pub(crate) fn settled<L: Ledger>(
+pub(crate) fn settle_within_limits<L: Ledger>(
     draft: Draft,
     number: u64,
     steps: &mut Steps<L>,
 ) -> Result<Outcome, AllocError>
-    ensures value { IfOk result (λ o. (S : State) → settled S draft.entry.tree number ≡ ended S o) }
+    ensures value { IfOk result (λ o. (S : State) → settle_within_limits S draft.entry.tree number ≡ reply_and_next S o) }
     ensures over { IfOk result (λ o. IsOver draft.entry.base o) }
 {
     let mut draft = draft;
@@ -78,18 +78,18 @@ fn unmet<L: Ledger>(
 }
 
 // The node at the path was written in the draft, and has this payload version.
-pub(crate) fn wrote<L: Ledger>(
+pub(crate) fn finish_write<L: Ledger>(
     draft: Draft,
     path: &Path,
     version: u64,
     steps: &mut Steps<L>,
 ) -> Result<Outcome, AllocError>
     requires version { version ≡ pv_of (get draft.tree path.now) }
-    ensures value { IfOk result (λ o. (S : State) → wrote S path.now draft.entry.tree ≡ ended S o) }
+    ensures value { IfOk result (λ o. (S : State) → finish_write S path.now draft.entry.tree ≡ reply_and_next S o) }
     ensures over { IfOk result (λ o. IsOver draft.entry.base o) }
 {
     if let Some(target) = unmet(&draft, path, steps)? {
         return Ok(Outcome::Same(Reply::NoWhile { target }));
     }
-    settled(draft, version, steps)
+    settle_within_limits(draft, version, steps)
 }

@@ -1,14 +1,14 @@
 // The machine.
-ghost use Rattle.std.specs.Prelude.{◌≡◌, ◌<◌, ◌≤◌, ◌+◌, ◌^◌, [], false, IsTrue, IfOk, length};
+ghost use Rattle.std.specs.Prelude.{◌≡◌, ◌<◌, ◌≤◌, ◌+◌, ◌^◌, [], false, IsTrue, IfOk, Some, length};
 ghost use Rattle.khepri_types.specs.declared.command.Command.TheVariants as command;
 ghost use Rattle.khepri_types.specs.declared.limits.TheConstants.{MAX_PATH_NAMES};
-ghost use Rattle.khepri_types.specs.Exec.{exec, exec_command, opening_state, write, dropped};
+ghost use Rattle.khepri_types.specs.Exec.{shown_entry, exec, exec_command, opening_state, write, dropped};
 ghost use Rattle.khepri_types.specs.Conditions.{holds_at};
 ghost use Rattle.khepri_types.specs.Paths.{is_under};
 ghost use Rattle.khepri_types.specs.Tree.{stands};
-ghost use Rattle.khepri_machine.specs.Outcomes.{ended, IsOver};
+ghost use Rattle.khepri_machine.specs.Outcomes.{reply_and_next, IsOver};
 
-use crate::finish::{give_watches, settled, wrote};
+use crate::finish::{finish_write, give_watches, settle_within_limits};
 use crate::outcome::Outcome;
 use crate::refusal::unwritable;
 use crate::scan::{find, matching};
@@ -61,33 +61,43 @@ impl KhepriMachine {
         self.position
     }
 
-    /// Applies an entry and answers its command.
+    /// Applies an entry and answers it.
     pub fn exec<L: Ledger>(
         &mut self,
         entry: &Entry,
         steps: &mut Steps<L>,
     ) -> Result<Reply, AllocError>
         requires room { self.old.position < 2 ^ 40 }
-        ensures { IfOk result (λ reply. exec self.old entry.now ≡ (reply, self.new)) }
+        ensures { IfOk result (λ reply. exec self.old (shown_entry entry.now) ≡ (Some reply, self.new)) }
     {
         match entry {
             Entry::Command {
                 conn: _,
                 line: _,
                 cmd,
-            } => {
-                let outcome = self.outcome(cmd, steps)?;
-                self.apply(outcome, steps)
-            }
+            } => self.exec_command(cmd, steps),
         }
     }
 
-    /// Applies an entry and answers its command; the steps are not counted.
-    pub fn exec_uncounted(&mut self, entry: &Entry) -> Result<Reply, AllocError>
+    /// Applies the entry of a command and answers it.
+    pub fn exec_command<L: Ledger>(
+        &mut self,
+        cmd: &Command,
+        steps: &mut Steps<L>,
+    ) -> Result<Reply, AllocError>
         requires room { self.old.position < 2 ^ 40 }
-        ensures { IfOk result (λ reply. exec self.old entry.now ≡ (reply, self.new)) }
+        ensures { IfOk result (λ reply. exec_command self.old cmd.now ≡ (reply, self.new)) }
     {
-        exec_from::<Brand>(self, entry, Blank::new(1))
+        let outcome = self.outcome(cmd, steps)?;
+        self.apply(outcome, steps)
+    }
+
+    /// Applies the entry of a command and answers it; the steps are not counted.
+    pub fn exec_uncounted(&mut self, cmd: &Command) -> Result<Reply, AllocError>
+        requires room { self.old.position < 2 ^ 40 }
+        ensures { IfOk result (λ reply. exec_command self.old cmd.now ≡ (reply, self.new)) }
+    {
+        exec_from::<Brand>(self, cmd, Blank::new(1))
     }
 
     // What an entry comes to becomes the next state.
@@ -98,7 +108,7 @@ impl KhepriMachine {
     ) -> Result<Reply, AllocError>
         requires room { self.old.position < 2 ^ 40 }
         requires over { IsOver self.old.tree outcome }
-        ensures { IfOk result (λ reply. ended self.old outcome ≡ (reply, self.new)) }
+        ensures { IfOk result (λ reply. reply_and_next self.old outcome ≡ (reply, self.new)) }
     {
         match outcome {
             Outcome::Same(reply) => {
@@ -115,7 +125,7 @@ impl KhepriMachine {
 
     // What a command comes to.
     fn outcome<L: Ledger>(&self, cmd: &Command, steps: &mut Steps<L>) -> Result<Outcome, AllocError>
-        ensures value { IfOk result (λ o. exec_command self.now cmd.now ≡ ended self.now o) }
+        ensures value { IfOk result (λ o. exec_command self.now cmd.now ≡ reply_and_next self.now o) }
         ensures over { IfOk result (λ o. IsOver self.now.tree o) }
     {
         match cmd {
@@ -123,40 +133,40 @@ impl KhepriMachine {
                 path,
                 payload,
                 watch,
-            } => self.put(path, payload, watch, steps),
+            } => self.put_outcome(path, payload, watch, steps),
             Command::Create {
                 path,
                 payload,
                 watch,
-            } => self.create(path, payload, watch, steps),
+            } => self.create_outcome(path, payload, watch, steps),
             Command::Update {
                 path,
                 payload,
                 watch,
-            } => self.update(path, payload, watch, steps),
+            } => self.update_outcome(path, payload, watch, steps),
             Command::Cas {
                 path,
                 cond,
                 payload,
                 watch,
-            } => self.cas(path, cond, payload, watch, steps),
-            Command::Clear { path } => self.clear(path, steps),
-            Command::Del { path } => self.del(path, steps),
-            Command::Delmany { pattern } => self.delmany(pattern, steps),
-            Command::Get { path } => self.get(path, steps),
-            Command::Many { pattern, limit } => self.many(pattern, *limit, steps),
-            Command::Count { pattern } => self.count(pattern, steps),
+            } => self.cas_outcome(path, cond, payload, watch, steps),
+            Command::Clear { path } => self.clear_outcome(path, steps),
+            Command::Del { path } => self.del_outcome(path, steps),
+            Command::Delmany { pattern } => self.delmany_outcome(pattern, steps),
+            Command::Get { path } => self.get_outcome(path, steps),
+            Command::Many { pattern, limit } => self.many_outcome(pattern, *limit, steps),
+            Command::Count { pattern } => self.count_outcome(pattern, steps),
         }
     }
 
-    fn put<L: Ledger>(
+    fn put_outcome<L: Ledger>(
         &self,
         path: &Path,
         payload: &Payload,
         watch: &Watching,
         steps: &mut Steps<L>,
     ) -> Result<Outcome, AllocError>
-        ensures value { IfOk result (λ o. exec_command self.now (command.Put path.now payload.now watch.now) ≡ ended self.now o) }
+        ensures value { IfOk result (λ o. exec_command self.now (command.Put path.now payload.now watch.now) ≡ reply_and_next self.now o) }
         ensures over { IfOk result (λ o. IsOver self.now.tree o) }
     {
         if let Some(reply) = unwritable(path, watch) {
@@ -165,14 +175,14 @@ impl KhepriMachine {
         self.write(path, payload, watch, steps)
     }
 
-    fn create<L: Ledger>(
+    fn create_outcome<L: Ledger>(
         &self,
         path: &Path,
         payload: &Payload,
         watch: &Watching,
         steps: &mut Steps<L>,
     ) -> Result<Outcome, AllocError>
-        ensures value { IfOk result (λ o. exec_command self.now (command.Create path.now payload.now watch.now) ≡ ended self.now o) }
+        ensures value { IfOk result (λ o. exec_command self.now (command.Create path.now payload.now watch.now) ≡ reply_and_next self.now o) }
         ensures over { IfOk result (λ o. IsOver self.now.tree o) }
     {
         if let Some(reply) = unwritable(path, watch) {
@@ -184,14 +194,14 @@ impl KhepriMachine {
         self.write(path, payload, watch, steps)
     }
 
-    fn update<L: Ledger>(
+    fn update_outcome<L: Ledger>(
         &self,
         path: &Path,
         payload: &Payload,
         watch: &Watching,
         steps: &mut Steps<L>,
     ) -> Result<Outcome, AllocError>
-        ensures value { IfOk result (λ o. exec_command self.now (command.Update path.now payload.now watch.now) ≡ ended self.now o) }
+        ensures value { IfOk result (λ o. exec_command self.now (command.Update path.now payload.now watch.now) ≡ reply_and_next self.now o) }
         ensures over { IfOk result (λ o. IsOver self.now.tree o) }
     {
         if let Some(reply) = unwritable(path, watch) {
@@ -203,7 +213,7 @@ impl KhepriMachine {
         self.write(path, payload, watch, steps)
     }
 
-    fn cas<L: Ledger>(
+    fn cas_outcome<L: Ledger>(
         &self,
         path: &Path,
         cond: &Condition,
@@ -211,7 +221,7 @@ impl KhepriMachine {
         watch: &Watching,
         steps: &mut Steps<L>,
     ) -> Result<Outcome, AllocError>
-        ensures value { IfOk result (λ o. exec_command self.now (command.Cas path.now cond.now payload.now watch.now) ≡ ended self.now o) }
+        ensures value { IfOk result (λ o. exec_command self.now (command.Cas path.now cond.now payload.now watch.now) ≡ reply_and_next self.now o) }
         ensures over { IfOk result (λ o. IsOver self.now.tree o) }
     {
         if let Some(reply) = unwritable(path, watch) {
@@ -223,8 +233,12 @@ impl KhepriMachine {
         self.write(path, payload, watch, steps)
     }
 
-    fn clear<L: Ledger>(&self, path: &Path, steps: &mut Steps<L>) -> Result<Outcome, AllocError>
-        ensures value { IfOk result (λ o. exec_command self.now (command.Clear path.now) ≡ ended self.now o) }
+    fn clear_outcome<L: Ledger>(
+        &self,
+        path: &Path,
+        steps: &mut Steps<L>,
+    ) -> Result<Outcome, AllocError>
+        ensures value { IfOk result (λ o. exec_command self.now (command.Clear path.now) ≡ reply_and_next self.now o) }
         ensures over { IfOk result (λ o. IsOver self.now.tree o) }
     {
         if !self.stands(path, steps) {
@@ -233,8 +247,12 @@ impl KhepriMachine {
         self.write(path, &Payload::Empty, &Watching::Stay, steps)
     }
 
-    fn del<L: Ledger>(&self, path: &Path, steps: &mut Steps<L>) -> Result<Outcome, AllocError>
-        ensures value { IfOk result (λ o. exec_command self.now (command.Del path.now) ≡ ended self.now o) }
+    fn del_outcome<L: Ledger>(
+        &self,
+        path: &Path,
+        steps: &mut Steps<L>,
+    ) -> Result<Outcome, AllocError>
+        ensures value { IfOk result (λ o. exec_command self.now (command.Del path.now) ≡ reply_and_next self.now o) }
         ensures over { IfOk result (λ o. IsOver self.now.tree o) }
     {
         if path.len() == 0 {
@@ -244,12 +262,12 @@ impl KhepriMachine {
         self.dropped(paths.as_slice(), steps)
     }
 
-    fn delmany<L: Ledger>(
+    fn delmany_outcome<L: Ledger>(
         &self,
         pattern: &Pattern,
         steps: &mut Steps<L>,
     ) -> Result<Outcome, AllocError>
-        ensures value { IfOk result (λ o. exec_command self.now (command.Delmany pattern.now) ≡ ended self.now o) }
+        ensures value { IfOk result (λ o. exec_command self.now (command.Delmany pattern.now) ≡ reply_and_next self.now o) }
         ensures over { IfOk result (λ o. IsOver self.now.tree o) }
     {
         if pattern.parts().len() == 0 {
@@ -259,20 +277,24 @@ impl KhepriMachine {
         self.dropped(paths.as_slice(), steps)
     }
 
-    fn get<L: Ledger>(&self, path: &Path, steps: &mut Steps<L>) -> Result<Outcome, AllocError>
-        ensures value { IfOk result (λ o. exec_command self.now (command.Get path.now) ≡ ended self.now o) }
+    fn get_outcome<L: Ledger>(
+        &self,
+        path: &Path,
+        steps: &mut Steps<L>,
+    ) -> Result<Outcome, AllocError>
+        ensures value { IfOk result (λ o. exec_command self.now (command.Get path.now) ≡ reply_and_next self.now o) }
         ensures over { IfOk result (λ o. IsOver self.now.tree o) }
     {
         Ok(Outcome::Same(shown(&self.tree, path, steps)?))
     }
 
-    fn many<L: Ledger>(
+    fn many_outcome<L: Ledger>(
         &self,
         pattern: &Pattern,
         limit: u64,
         steps: &mut Steps<L>,
     ) -> Result<Outcome, AllocError>
-        ensures value { IfOk result (λ o. exec_command self.now (command.Many pattern.now limit) ≡ ended self.now o) }
+        ensures value { IfOk result (λ o. exec_command self.now (command.Many pattern.now limit) ≡ reply_and_next self.now o) }
         ensures over { IfOk result (λ o. IsOver self.now.tree o) }
     {
         let found = find(self.alloc, &self.tree, pattern, limit, steps)?;
@@ -282,12 +304,12 @@ impl KhepriMachine {
         }))
     }
 
-    fn count<L: Ledger>(
+    fn count_outcome<L: Ledger>(
         &self,
         pattern: &Pattern,
         steps: &mut Steps<L>,
     ) -> Result<Outcome, AllocError>
-        ensures value { IfOk result (λ o. exec_command self.now (command.Count pattern.now) ≡ ended self.now o) }
+        ensures value { IfOk result (λ o. exec_command self.now (command.Count pattern.now) ≡ reply_and_next self.now o) }
         ensures over { IfOk result (λ o. IsOver self.now.tree o) }
     {
         let found = find(self.alloc, &self.tree, pattern, 0, steps)?;
@@ -321,13 +343,13 @@ impl KhepriMachine {
         steps: &mut Steps<L>,
     ) -> Result<Outcome, AllocError>
         requires short { length path.now ≤ MAX_PATH_NAMES }
-        ensures value { IfOk result (λ o. write self.now path.now payload.now watch.now ≡ ended self.now o) }
+        ensures value { IfOk result (λ o. write self.now path.now payload.now watch.now ≡ reply_and_next self.now o) }
         ensures over { IfOk result (λ o. IsOver self.now.tree o) }
     {
         let mut draft = self.tree.draft()?;
         let version = draft.set(path, payload, steps)?;
         give_watches(&mut draft, path, watch)?;
-        wrote(draft, path, version, steps)
+        finish_write(draft, path, version, steps)
     }
 
     // The nodes at the paths and all below them are dropped.
@@ -337,25 +359,25 @@ impl KhepriMachine {
         steps: &mut Steps<L>,
     ) -> Result<Outcome, AllocError>
         requires below { is_under paths.now [] ≡ false }
-        ensures value { IfOk result (λ o. dropped self.now paths.now ≡ ended self.now o) }
+        ensures value { IfOk result (λ o. dropped self.now paths.now ≡ reply_and_next self.now o) }
         ensures over { IfOk result (λ o. IsOver self.now.tree o) }
     {
         let mut draft = self.tree.draft()?;
         let count = draft.drop_all(paths, steps)?;
-        settled(draft, count, steps)
+        settle_within_limits(draft, count, steps)
     }
 }
 
-// Applies an entry and counts its steps from none.
+// Applies the entry of a command and counts its steps from none.
 fn exec_from<L: Ledger>(
     machine: &mut KhepriMachine,
-    entry: &Entry,
+    cmd: &Command,
     blank: Blank,
 ) -> Result<Reply, AllocError>
     requires blank { (blank.name ≡ L.name) × (blank.parts ≡ L.parts) × (0 < L.parts) }
     requires room { machine.old.position < 2 ^ 40 }
-    ensures { IfOk result (λ reply. exec machine.old entry.now ≡ (reply, machine.new)) }
+    ensures { IfOk result (λ reply. exec_command machine.old cmd.now ≡ (reply, machine.new)) }
 {
     let mut steps = Steps::<L>::open(blank);
-    machine.exec(entry, &mut steps)
+    machine.exec_command(cmd, &mut steps)
 }

@@ -1,7 +1,7 @@
 // What refuses a command before anything is changed.
 ghost use Rattle.std.specs.Prelude.{◌≡◌, ltb, length};
 ghost use Rattle.std.specs.List.{list_any};
-ghost use Rattle.khepri_types.specs.Watching.{is_deep, is_given, watches_root, has_deep_target};
+ghost use Rattle.khepri_types.specs.Watching.{is_deep, is_given, gives_root_watches, has_deep_target};
 ghost use Rattle.khepri_machine.specs.Refusals.{unwritable};
 
 use khepri_terms::Path;
@@ -24,8 +24,8 @@ fn is_given(watch: &Watching) -> bool
     }
 }
 
-fn watches_root(path: &Path, watch: &Watching) -> bool
-    ensures { result ≡ watches_root path.now watch.now }
+fn gives_root_watches(path: &Path, watch: &Watching) -> bool
+    ensures { result ≡ gives_root_watches path.now watch.now }
 {
     if path.len() == 0 {
         return is_given(watch);
@@ -58,7 +58,7 @@ fn has_deep_target(watch: &Watching) -> bool
 pub(crate) fn unwritable(path: &Path, watch: &Watching) -> Option<Reply>
     ensures { result ≡ unwritable path.now watch.now }
 {
-    if watches_root(path, watch) {
+    if gives_root_watches(path, watch) {
         return Some(Reply::NoRoot);
     }
     if is_deep(path) || has_deep_target(watch) {

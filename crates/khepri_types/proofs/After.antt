@@ -23,8 +23,8 @@ use Rattle.khepri_types.specs.Patterns.{matching}
 use Rattle.khepri_types.specs.Drop.{drop}
 use Rattle.khepri_types.specs.Settling.{settle, gone}
 use Rattle.khepri_types.specs.Sizes.{fits}
-use Rattle.khepri_types.specs.Watching.{set_watched, is_deep, watches_root, has_deep_target, unmet_of}
-use Rattle.khepri_types.specs.Exec.{State, pv_of, passed_over, refused, settled, settled_unless, write, if_writable, dropped, delete, delete_all, shown, listed, exec_command}
+use Rattle.khepri_types.specs.Watching.{set_watched, is_deep, gives_root_watches, has_deep_target, unmet_of}
+use Rattle.khepri_types.specs.Exec.{State, pv_of, applied, passed_over, refused, settle_within_limits, settle_unless, write, if_writable, dropped, delete, delete_all, shown, listed, exec_command}
 use Rattle.khepri_types.specs.Spelled.{IsPayload, IsWatching, IsCommand}
 use Rattle.khepri_types.proofs.Matching.{root_unmatched}
 use Rattle.khepri_types.proofs.Standing.{not_root}
@@ -43,7 +43,7 @@ IsRefusing r = Unit {0}
 
 -- what is left of a changed tree
 abbrev pub was_settled : State → Tree → ℕ → Outcome
-was_settled S T number = (reply.Changed number (gone T), record { tree = settle T; position = S.position + 1 })
+was_settled S T number = (reply.Changed number (gone T), applied S (settle T))
 
 -- p was written
 abbrev pub was_set : State → List NameText → Tree → Outcome
@@ -82,11 +82,11 @@ not_deep p b h = elim (cases_lt MAX_PATH_NAMES (length p)) as (λ _. length p �
   | inr le ↦ le
 ]
 
-met-settled : (R : Outcome → Type 0) (S : State) (T : Tree) (number : ℕ) → R (refused S reply.NoFull) → (IsTrue (fits (settle T)) → R (was_settled S T number)) → R (settled S T number)
+met-settled : (R : Outcome → Type 0) (S : State) (T : Tree) (number : ℕ) → R (refused S reply.NoFull) → (IsTrue (fits (settle T)) → R (was_settled S T number)) → R (settle_within_limits S T number)
 met-settled R S T number full fit = chosen R (fits (settle T)) (was_settled S T number) (refused S reply.NoFull) fit (λ _. full)
 
 met-unless : (R : Outcome → Type 0) (S : State) (T : Tree) (number : ℕ) (o : Option Watch) → R (refused S reply.NoFull) → ((u : Watch) → o ≡ Some u → R (refused S (reply.NoWhile u.target)))
-    → (IsTrue (fits (settle T)) → R (was_settled S T number)) → R (settled_unless o S T number)
+    → (IsTrue (fits (settle T)) → R (was_settled S T number)) → R (settle_unless o S T number)
 met-unless R S T number None full broken fit = met-settled R S T number full fit
 met-unless R S T number (Some u) full broken fit = broken u refl
 
@@ -109,7 +109,7 @@ met-delete_all R S c m (P ∷ parts) = met-dropped R S c m (matching (P ∷ part
 met-writable : (R : Outcome → Type 0) (S : State) (c : Command) → IsMet R S c → (p : List NameText) (w : Watching) (y : Outcome) → (length p ≤ MAX_PATH_NAMES → R y) → R (if_writable S p w y)
 met-writable R S c m p w y h =
     let deep : Bool = is_deep p || has_deep_target w in
-    chosen R (watches_root p w) (refused S reply.NoRoot) (cond deep (refused S reply.NoDeep) y) (λ _. m.refuses reply.NoRoot tt)
+    chosen R (gives_root_watches p w) (refused S reply.NoRoot) (cond deep (refused S reply.NoDeep) y) (λ _. m.refuses reply.NoRoot tt)
     (λ _. chosen R deep (refused S reply.NoDeep) y (λ _. m.refuses reply.NoDeep tt) (λ e. h (not_deep p (has_deep_target w) e)))
 
 -- then it holds of the one that it has

@@ -5,14 +5,12 @@ use Rattle.std.specs.FinMap.{get}
 use Rattle.khepri_terms.specs.Terms.{NameText}
 use Rattle.khepri_types.specs.declared.node.Node.{Node}
 use Rattle.khepri_types.specs.declared.command.Command.{Command}
-use Rattle.khepri_types.specs.declared.command.Entry.{Entry}
-use Rattle.khepri_types.specs.declared.command.Entry.TheVariants as entry
 use Rattle.khepri_types.specs.declared.out.EntryText.{EntryText}
 use Rattle.khepri_types.specs.declared.out.EntryText.TheVariants as text
 use Rattle.khepri_types.specs.declared.out.OutLine.{OutLine}
 use Rattle.khepri_types.specs.Tree.{IsTree, opening_tree}
 use Rattle.khepri_types.specs.Drop.{drop}
-use Rattle.khepri_types.specs.Exec.{State, opening_state, exec_command, exec, state_of}
+use Rattle.khepri_types.specs.Exec.{State, opening_state, exec_command, state_of}
 use Rattle.khepri_types.specs.History.{empty_opening, history, run_from, StaysStable}
 use Rattle.khepri_types.specs.Settling.{fails, stable}
 use Rattle.khepri_types.specs.Watching.{set_watched}
@@ -62,17 +60,14 @@ stable-after S c h = met (λ y. IsTrue (stable y.1.tree)) S c (record {
   drops = λ paths apart fit. settle-ends (drop S.tree paths);
 })
 
-pub stable-entry : (S : State) (e : Entry) → IsTrue (stable S.tree) → IsTrue (stable (exec S e).1.tree)
-stable-entry S (entry.Command conn line c) h = stable-after S c h
-
-pub stable-step : (S : State) (e : EntryText) → IsTrue (stable S.tree) → IsTrue (stable (state_of S e).tree)
-stable-step S (text.Command c) h = stable-after S c h
-stable-step S (text.Fire s) h = h
-stable-step S text.Noop h = h
+pub stable-entry : (S : State) (e : EntryText) → IsTrue (stable S.tree) → IsTrue (stable (state_of S e).tree)
+stable-entry S (text.Command c) h = stable-after S c h
+stable-entry S (text.Fire s) h = h
+stable-entry S text.Noop h = h
 
 pub stable-run : (es : List EntryText) (S : State) → IsTrue (stable S.tree) → IsTrue (stable (run_from S es).tree)
 stable-run [] S h = h
-stable-run (e ∷ es) S h = stable-run es (state_of S e) (stable-step S e h)
+stable-run (e ∷ es) S h = stable-run es (state_of S e) (stable-entry S e h)
 
 -- after each front of the entries that an output tells, the tree is stable
 pub stays-stable : (lines : List OutLine) → StaysStable empty_opening lines

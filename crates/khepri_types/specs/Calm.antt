@@ -37,9 +37,9 @@ unfoldable pub calm : List (List ℕ) → List OutLine
 calm input = out.Leads 1 1 ∷ answers 1 opening_state input
 
 -- a line and its LF
-abbrev pub ended : OutLine → List ℕ
-ended x = out_text x ++ 10 ∷ []
+abbrev pub with_lf : OutLine → List ℕ
+with_lf x = out_text x ++ 10 ∷ []
 
 -- the bytes of output lines, each ended by LF
 abbrev pub text_of : List OutLine → List ℕ
-text_of output = flat_map ended output
+text_of output = flat_map with_lf output

@@ -25,7 +25,7 @@ use Rattle.khepri_types.specs.Tree.{Tree, stands, opening_tree}
 use Rattle.khepri_types.specs.Conditions.{holds_at}
 use Rattle.khepri_types.specs.Patterns.{matching_nodes, matching}
 use Rattle.khepri_types.specs.Settling.{settle, gone}
-use Rattle.khepri_types.specs.Watching.{set_watched, is_deep, watches_root, has_deep_target, unmet_of}
+use Rattle.khepri_types.specs.Watching.{set_watched, is_deep, gives_root_watches, has_deep_target, unmet_of}
 use Rattle.khepri_types.specs.Drop.{drop}
 use Rattle.khepri_types.specs.Sizes.{kids, fits}
 
@@ -43,9 +43,13 @@ abbrev pub pv_of : Option Node → ℕ
 pv_of None = 0
 pv_of (Some n) = n.pv
 
+-- the state after an entry that made this tree
+abbrev pub applied : State → Tree → State
+applied S T = record S { tree = T; position = S.position + 1 }
+
 -- an entry that changes the position alone
 abbrev pub passed_over : State → State
-passed_over S = record S { position = S.position + 1 }
+passed_over S = applied S S.tree
 
 -- a refused command: the position rises, and all else is as before
 abbrev pub refused : State → Reply → Reply × State
@@ -53,33 +57,33 @@ refused S r = (r, passed_over S)
 
 -- the tree becomes this one, unless that would pass a limit
 abbrev pub changed : State → Tree → Reply → Reply × State
-changed S T r = if fits T then (r, record { tree = T; position = S.position + 1 }) else refused S reply.NoFull
+changed S T r = if fits T then (r, applied S T) else refused S reply.NoFull
 
 -- what is left of the changed tree when it has settled, unless that would pass a limit; the reply has this number, and how many
 -- nodes settling removed
-abbrev pub settled : State → Tree → ℕ → Reply × State
-settled S T number = changed S (settle T) (reply.Changed number (gone T))
+abbrev pub settle_within_limits : State → Tree → ℕ → Reply × State
+settle_within_limits S T number = changed S (settle T) (reply.Changed number (gone T))
 
 -- so, unless there is a watch of a written node that isn't met in the changed tree
-abbrev pub settled_unless : Option Watch → State → Tree → ℕ → Reply × State
-settled_unless None S T number = settled S T number
-settled_unless (Some w) S T number = refused S (reply.NoWhile w.target)
+abbrev pub settle_unless : Option Watch → State → Tree → ℕ → Reply × State
+settle_unless None S T number = settle_within_limits S T number
+settle_unless (Some w) S T number = refused S (reply.NoWhile w.target)
 
 -- the node at the path was written, which made this tree; the reply has its payload version after the change
-abbrev pub wrote : State → List NameText → Tree → Reply × State
-wrote S p T = settled_unless (unmet_of T (get T p)) S T (pv_of (get T p))
+abbrev pub finish_write : State → List NameText → Tree → Reply × State
+finish_write S p T = settle_unless (unmet_of T (get T p)) S T (pv_of (get T p))
 
 -- the payload is set at the path, and then the watches of its node
 abbrev pub write : State → List NameText → Payload → Watching → Reply × State
-write S p x w = wrote S p (set_watched S.tree p x w)
+write S p x w = finish_write S p (set_watched S.tree p x w)
 
 -- a command that writes the node at the path goes on so, unless it gives the root watches, or the path or a target has too many names
 abbrev pub if_writable : State → List NameText → Watching → Reply × State → Reply × State
-if_writable S p w next = if watches_root p w then refused S reply.NoRoot else (if is_deep p || has_deep_target w then refused S reply.NoDeep else next)
+if_writable S p w next = if gives_root_watches p w then refused S reply.NoRoot else (if is_deep p || has_deep_target w then refused S reply.NoDeep else next)
 
 -- the nodes at these paths and all below them are dropped in one round; the reply has their number
 abbrev pub dropped : State → List (List NameText) → Reply × State
-dropped S paths = settled S (drop S.tree paths) (len S.tree - len (drop S.tree paths))
+dropped S paths = settle_within_limits S (drop S.tree paths) (len S.tree - len (drop S.tree paths))
 
 -- the node at the path and all below it are dropped, unless it is the root
 abbrev pub delete : State → List NameText → Reply × State
@@ -117,23 +121,23 @@ exec_command S (Get p) = (shown S.tree p (get S.tree p), passed_over S)
 exec_command S (Many parts limit) = (listed S.tree parts limit, passed_over S)
 exec_command S (Count parts) = (reply.Count (length (matching parts S.tree)), passed_over S)
 
--- an entry's reply and the next state
-abbrev pub exec : State → Entry → Reply × State
-exec S (entry.Command conn line cmd) = exec_command S cmd
+-- what stands in the `#` line of an entry
+abbrev pub shown_entry : Entry → EntryText
+shown_entry (entry.Command conn line cmd) = text.Command cmd
 
--- what the entry of a `#` line answers and the next state; a noop answers nothing, and neither does a fire as long as no event is ever queued
-abbrev pub step : State → EntryText → Option Reply × State
-step S (text.Command cmd) = (Some (exec_command S cmd).0, (exec_command S cmd).1)
-step S (text.Fire event) = (None, passed_over S)
-step S text.Noop = (None, passed_over S)
+-- what an entry answers, by what stands in its `#` line, and the next state; a noop answers nothing, and neither does a fire as long as no event is ever queued
+abbrev pub exec : State → EntryText → Option Reply × State
+exec S (text.Command cmd) = (Some (exec_command S cmd).0, (exec_command S cmd).1)
+exec S (text.Fire event) = (None, passed_over S)
+exec S text.Noop = (None, passed_over S)
 
--- what the entry of a `#` line answers
+-- what an entry answers
 abbrev pub reply_of : State → EntryText → Option Reply
-reply_of S e = (step S e).0
+reply_of S e = (exec S e).0
 
--- the state after the entry of a `#` line
+-- the state after an entry
 abbrev pub state_of : State → EntryText → State
-state_of S e = (step S e).1
+state_of S e = (exec S e).1
 
 -- the number of the first queued event; so far none is ever queued
 abbrev pub first_event : State → Option ℕ

@@ -48,9 +48,9 @@ is_given Free = true
 is_given (While watches) = true
 
 -- the root has no watches
-abbrev pub watches_root : List NameText → Watching → Bool
-watches_root [] w = is_given w
-watches_root (n ∷ p) w = false
+abbrev pub gives_root_watches : List NameText → Watching → Bool
+gives_root_watches [] w = is_given w
+gives_root_watches (n ∷ p) w = false
 
 -- the target of a watch has too many names
 abbrev pub has_deep_target : Watching → Bool

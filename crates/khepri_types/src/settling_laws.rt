@@ -5,11 +5,10 @@ ghost use Rattle.khepri_terms.specs.Terms.{NameText};
 ghost use Rattle.khepri_types.specs.declared.node.Node.{Node};
 ghost use Rattle.khepri_types.specs.declared.node.Payload.{Payload};
 ghost use Rattle.khepri_types.specs.declared.watch.Watching.{Watching};
-ghost use Rattle.khepri_types.specs.declared.command.Entry.{Entry};
 ghost use Rattle.khepri_types.specs.declared.out.EntryText.{EntryText};
 ghost use Rattle.khepri_types.specs.declared.out.OutLine.{OutLine};
 ghost use Rattle.khepri_types.specs.Drop.{drop};
-ghost use Rattle.khepri_types.specs.Exec.{State, opening_state, exec, state_of};
+ghost use Rattle.khepri_types.specs.Exec.{State, opening_state, state_of};
 ghost use Rattle.khepri_types.specs.History.{empty_opening, run_from, StaysStable};
 ghost use Rattle.khepri_types.specs.Sizes.{fits};
 ghost use Rattle.khepri_types.specs.Tree.{Tree, IsTree, stands, end_node, set, opening_tree};
@@ -40,8 +39,7 @@ pub fn settling_ends()
 /// The first tree is stable, and each entry makes a stable tree of a stable one: so the tree of every state of a history is stable.
 pub fn states_stay_stable()
     ensures opening { IsTrue (stable opening_tree) }
-    ensures entry { (S : State) (e : Entry) → IsTrue (stable S.tree) → IsTrue (stable (exec S e).1.tree) }
-    ensures step { (S : State) (e : EntryText) → IsTrue (stable S.tree) → IsTrue (stable (state_of S e).tree) }
+    ensures entry { (S : State) (e : EntryText) → IsTrue (stable S.tree) → IsTrue (stable (state_of S e).tree) }
     ensures history { (es : List EntryText) → IsTrue (stable (run_from opening_state es).tree) }
     ensures output { (lines : List OutLine) → StaysStable empty_opening lines }
 {}

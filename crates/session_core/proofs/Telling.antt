@@ -12,7 +12,7 @@ use Rattle.khepri_types.specs.declared.out.OutLine.TheVariants as out
 use Rattle.khepri_types.specs.declared.out.Reason.TheVariants.{NoNode}
 use Rattle.khepri_types.specs.Exec.{State, opening_state}
 use Rattle.khepri_types.specs.Reading.{line_at}
-use Rattle.khepri_types.specs.Calm.{answer_command, answer_line, answer, answers, calm, ended, text_of}
+use Rattle.khepri_types.specs.Calm.{answer_command, answer_line, answer, answers, calm, with_lf, text_of}
 use Rattle.khepri_types.proofs.After.{position-after}
 use Rattle.session_core.specs.Told.{answer_given, told, after, told_text}
 use Rattle.session_core.specs.Session.{calm_text}
@@ -60,7 +60,7 @@ unfolding told_text
 told_text-more l xs ys e =
     let n : 1 + length xs ≡ l = omega arith in
     ap (λ (x : List OutLine). text_of (out.Leads 1 1 ∷ x)) (told-append 1 opening_state xs ys ∙ ap (λ (k : ℕ). told 1 opening_state xs ++ told k (after 1 opening_state xs) ys) n)
-    ∙ flat_map-append ended (out.Leads 1 1 ∷ told 1 opening_state xs) (told l (after 1 opening_state xs) ys)
+    ∙ flat_map-append with_lf (out.Leads 1 1 ∷ told 1 opening_state xs) (told l (after 1 opening_state xs) ys)
 
 pub after-more : (l : ℕ) (xs ys : List (Option (List ℕ))) → l ≡ length xs + 1 → after 1 opening_state (xs ++ ys) ≡ after l (after 1 opening_state xs) ys
 after-more l xs ys e =
@@ -68,9 +68,9 @@ after-more l xs ys e =
     after-append 1 opening_state xs ys ∙ ap (λ (k : ℕ). after k (after 1 opening_state xs) ys) n
 
 -- what is written before any line is given
-pub told_text-none : told_text [] ≡ ended (out.Leads 1 1)
+pub told_text-none : told_text [] ≡ with_lf (out.Leads 1 1)
 unfolding told_text
-told_text-none = append-nil (ended (out.Leads 1 1))
+told_text-none = append-nil (with_lf (out.Leads 1 1))
 
 -- ---- positions
 

@@ -1,18 +1,11 @@
 -- What is answered to lines as the reader gives them, a line that is too long as none.
 use Rattle.std.specs.Prelude.{ℕ, ◌+◌, List, [], ◌∷◌, ◌++◌, Option, Some, None}
-use Rattle.khepri_types.specs.declared.command.Command.{Command}
-use Rattle.khepri_types.specs.declared.command.Entry.{Entry}
-use Rattle.khepri_types.specs.declared.command.Entry.TheVariants as entry
 use Rattle.khepri_types.specs.declared.out.Reason.TheVariants.{TooLong}
 use Rattle.khepri_types.specs.declared.out.OutLine.{OutLine}
 use Rattle.khepri_types.specs.declared.out.OutLine.TheVariants as out
 use Rattle.khepri_types.specs.Exec.{State, opening_state}
 use Rattle.khepri_types.specs.Reading.{line_at}
 use Rattle.khepri_types.specs.Calm.{answer_line, text_of}
-
--- the command that became this entry
-abbrev pub command_of : Entry → Command
-command_of (entry.Command conn line cmd) = cmd
 
 -- the output lines for line l as it was given, and the state after it
 abbrev pub answer_given : ℕ → State → Option (List ℕ) → List OutLine × State

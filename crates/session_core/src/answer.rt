@@ -3,20 +3,20 @@ ghost use Rattle.std.specs.Prelude.{◌≡◌, ◌<◌, ◌^◌, ◌++◌, OnOk,
 ghost use Rattle.line_io.specs.Shown.{given_next};
 ghost use Rattle.khepri_types.specs.declared.command.Line.TheVariants as line_of;
 ghost use Rattle.khepri_types.specs.declared.out.EntryText.TheVariants as text_of_entry;
-ghost use Rattle.khepri_types.specs.Calm.{answer_line, ended, text_of};
+ghost use Rattle.khepri_types.specs.Calm.{answer_line, with_lf, text_of};
 ghost use Rattle.khepri_types.specs.Reading.{line_at};
-ghost use Rattle.session_core.specs.Told.{command_of, told, after};
+ghost use Rattle.session_core.specs.Told.{told, after};
 
 use khepri_machine::KhepriMachine;
 use khepri_terms::TextFault;
-use khepri_types::{Command, Entry, EntryText, Line, OutLine, Reason, Reply};
+use khepri_types::{Command, EntryText, Line, OutLine, Reason, Reply};
 use line_io::Next;
 use line_text::{print_out, read_line};
 use std::alloc::{AllocError, Global};
 
 /// Appends the line that a session begins with: node 1 leads the first term.
 pub fn lead(out: &mut Vec<u8>) -> Result<(), AllocError>
-    ensures { OnOk result (out.new.items ≡ out.old.items ++ ended (OutLine.Leads 1 1)) }
+    ensures { OnOk result (out.new.items ≡ out.old.items ++ with_lf (OutLine.Leads 1 1)) }
 {
     put_out(OutLine::Leads { node: 1, term: 1 }, out)
 }
@@ -59,7 +59,7 @@ fn answer_text(
     }
 }
 
-// Answers a line that asks a node for something; there is only node 1.
+// Answers a line that asks for something.
 fn answer_line(
     machine: &mut KhepriMachine,
     number: u64,
@@ -70,7 +70,23 @@ fn answer_line(
     ensures text { OnOk result (out.new.items ≡ out.old.items ++ text_of (answer_line number machine.old (Some line)).0) }
     ensures state { OnOk result (machine.new ≡ (answer_line number machine.old (Some line)).1) }
 {
-    let Line::Command { node, cmd } = line;
+    match line {
+        Line::Command { node, cmd } => answer_command(machine, number, node, cmd, out),
+    }
+}
+
+// Answers a command to a node; there is only node 1.
+fn answer_command(
+    machine: &mut KhepriMachine,
+    number: u64,
+    node: u8,
+    cmd: Command,
+    out: &mut Vec<u8>,
+) -> Result<(), AllocError>
+    requires { machine.old.position < 2 ^ 40 }
+    ensures text { OnOk result (out.new.items ≡ out.old.items ++ text_of (answer_line number machine.old (Some (line_of.Command node cmd))).0) }
+    ensures state { OnOk result (machine.new ≡ (answer_line number machine.old (Some (line_of.Command node cmd))).1) }
+{
     if node > 1 {
         drop(cmd);
         return refuse(number, Reason::NoNode, out);
@@ -79,12 +95,12 @@ fn answer_line(
 }
 
 fn refuse(line: u64, reason: Reason, out: &mut Vec<u8>) -> Result<(), AllocError>
-    ensures { OnOk result (out.new.items ≡ out.old.items ++ ended (OutLine.Refused line reason)) }
+    ensures { OnOk result (out.new.items ≡ out.old.items ++ with_lf (OutLine.Refused line reason)) }
 {
     put_out(OutLine::Refused { line, reason }, out)
 }
 
-// Gives the machine the command of a line, and appends the entry and its reply.
+// Gives the machine the command of a line, and appends its entry and its reply.
 fn execute(
     machine: &mut KhepriMachine,
     line: u64,
@@ -95,60 +111,44 @@ fn execute(
     ensures text { OnOk result (out.new.items ≡ out.old.items ++ text_of (answer_line line machine.old (Some (line_of.Command 1 cmd))).0) }
     ensures state { OnOk result (machine.new ≡ (answer_line line machine.old (Some (line_of.Command 1 cmd))).1) }
 {
-    let entry = Entry::Command { conn: 0, line, cmd };
-    match machine.exec_uncounted(&entry) {
-        Ok(reply) => put_applied(machine.position(), line, entry, reply, out),
+    match machine.exec_uncounted(&cmd) {
+        Ok(reply) => put_applied(machine.position(), line, cmd, reply, out),
         Err(fault) => {
-            drop(entry);
+            drop(cmd);
             Err(fault)
         }
     }
 }
 
-// Appends the entry at position n and its reply.
+// Appends the entry of a command at position n, and its reply.
 fn put_applied(
     n: u64,
     line: u64,
-    entry: Entry,
+    cmd: Command,
     reply: Reply,
     out: &mut Vec<u8>,
 ) -> Result<(), AllocError>
-    ensures { OnOk result (out.new.items ≡ (out.old.items ++ ended (OutLine.Entry n line (text_of_entry.Command (command_of entry)))) ++ ended (OutLine.Reply line n reply)) }
+    ensures { OnOk result (out.new.items ≡ (out.old.items ++ with_lf (OutLine.Entry n line (text_of_entry.Command cmd))) ++ with_lf (OutLine.Reply line n reply)) }
 {
-    if let Err(fault) = put_entry(n, line, entry, out) {
+    let text = EntryText::Command(cmd);
+    if let Err(fault) = put_out(OutLine::Entry { n, line, text }, out) {
         drop(reply);
         return Err(fault);
     }
     put_out(OutLine::Reply { line, n, reply }, out)
 }
 
-fn put_entry(n: u64, line: u64, entry: Entry, out: &mut Vec<u8>) -> Result<(), AllocError>
-    ensures { OnOk result (out.new.items ≡ out.old.items ++ ended (OutLine.Entry n line (text_of_entry.Command (command_of entry)))) }
-{
-    let text = EntryText::Command(command_of(entry));
-    put_out(OutLine::Entry { n, line, text }, out)
-}
-
-// The command that became this entry.
-fn command_of(entry: Entry) -> Command
-    ensures { result ≡ command_of entry }
-{
-    match entry {
-        Entry::Command { cmd, .. } => cmd,
-    }
-}
-
 fn put_out(line: OutLine, out: &mut Vec<u8>) -> Result<(), AllocError>
-    ensures { OnOk result (out.new.items ≡ out.old.items ++ ended line) }
+    ensures { OnOk result (out.new.items ≡ out.old.items ++ with_lf line) }
 {
-    let put = put_line(&line, out);
+    let appended = append_line(&line, out);
     drop(line);
-    put
+    appended
 }
 
 // Appends an output line and its LF.
-fn put_line(line: &OutLine, out: &mut Vec<u8>) -> Result<(), AllocError>
-    ensures { OnOk result (out.new.items ≡ out.old.items ++ ended line.now) }
+fn append_line(line: &OutLine, out: &mut Vec<u8>) -> Result<(), AllocError>
+    ensures { OnOk result (out.new.items ≡ out.old.items ++ with_lf line.now) }
 {
     print_out(line, out)?;
     out.push(b'\n')?;

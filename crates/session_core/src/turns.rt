@@ -2,7 +2,7 @@
 ghost use Rattle.std.specs.Prelude.{◌≡◌, ◌≤◌, ◌+◌, [], false};
 ghost use Rattle.line_io.specs.Streams.{Rose};
 ghost use Rattle.khepri_types.specs.Exec.{opening_state};
-ghost use Rattle.khepri_types.specs.Calm.{ended};
+ghost use Rattle.khepri_types.specs.Calm.{with_lf};
 ghost use Rattle.khepri_types.specs.declared.limits.TheConstants.{MAX_INPUT_BYTES, MAX_LINE_BYTES};
 ghost use Rattle.khepri_types.specs.declared.out.OutLine.TheVariants.{Leads};
 ghost use Rattle.session_core.specs.Session.{Session};
@@ -46,7 +46,7 @@ fn answer_all<S: Source, K: Sink>(
 ) -> Status
     requires lines { lines.old ≡ record { limit = MAX_LINE_BYTES; unread = []; room = MAX_INPUT_BYTES + 1; ended = false } }
     requires machine { machine.old ≡ opening_state }
-    requires out { out.old.items ≡ ended (Leads 1 1) }
+    requires out { out.old.items ≡ with_lf (Leads 1 1) }
     ensures session { Session result (S.left source.old) (S.left source.new) (K.held sink.old) (K.held sink.new) }
     ensures source_fault { result ≡ Status.SourceFault → Rose (S.faults source.old) (S.faults source.new) }
     ensures sink_fault { result ≡ Status.SinkFault → Rose (K.faults sink.old) (K.faults sink.new) }

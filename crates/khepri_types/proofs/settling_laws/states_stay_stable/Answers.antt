@@ -1,5 +1,5 @@
 use Rattle.khepri_types.specs.Exec.{opening_state}
-use Rattle.khepri_types.proofs.Staying.{stable-opening, stable-entry, stable-step, stable-run, stays-stable}
+use Rattle.khepri_types.proofs.Staying.{stable-opening, stable-entry, stable-run, stays-stable}
 use Rattle.khepri_types.proofs.settling_laws.states_stay_stable.Goals as goal
 
 pub returns-clause-opening : goal.returns-clause-opening
@@ -7,9 +7,6 @@ returns-clause-opening c = stable-opening
 
 pub returns-clause-entry : goal.returns-clause-entry
 returns-clause-entry c = stable-entry
-
-pub returns-clause-step : goal.returns-clause-step
-returns-clause-step c = stable-step
 
 pub returns-clause-history : goal.returns-clause-history
 returns-clause-history c = λ es. stable-run es opening_state stable-opening

@@ -5,7 +5,7 @@ use Rattle.line_io.specs.Ahead.{Call}
 use Rattle.line_io.specs.declared.next.Next.{Next}
 use Rattle.line_io.specs.declared.next.LineFault.{LineFault}
 use Rattle.line_io.specs.Shown.{given_next}
-use Rattle.khepri_types.specs.Calm.{ended, text_of}
+use Rattle.khepri_types.specs.Calm.{with_lf, text_of}
 use Rattle.khepri_types.specs.declared.out.OutLine.TheVariants as out
 use Rattle.session_core.specs.Told.{told, told_text}
 use Rattle.session_core.specs.declared.status.Status.TheVariants as status
@@ -26,7 +26,7 @@ text_is : (slice out empty text : List ℕ) → slice ≡ out → out ≡ empty 
 text_is slice out empty text s o e = s ∙ (o ∙ ap (λ (x : List ℕ). x ++ text) e)
 
 -- the first line stands alone in the buffer
-opening_text : (slice items : List ℕ) → slice ≡ items → items ≡ ended (out.Leads 1 1) → slice ≡ told_text []
+opening_text : (slice items : List ℕ) → slice ≡ items → items ≡ with_lf (out.Leads 1 1) → slice ≡ told_text []
 opening_text slice items s o = s ∙ (o ∙ sym told_text-none)
 
 pub returns-then-is_err-clause-session : goal.returns-then-is_err-clause-session

@@ -5,9 +5,9 @@ use Rattle.khepri_types.specs.declared.reply.Reply.{Reply}
 use Rattle.khepri_types.specs.Exec.{State, dropped}
 use Rattle.khepri_types.specs.Paths.{is_under}
 use Rattle.khepri_types.specs.Patterns.{matching}
-use Rattle.khepri_machine.specs.Outcomes.{ended}
+use Rattle.khepri_machine.specs.Outcomes.{reply_and_next}
 use Rattle.khepri_machine.proofs.Sparing.{some_unmatched, delete_all_some}
-use Rattle.khepri_machine.proofs.machine.KhepriMachine.delmany.Goals as goal
+use Rattle.khepri_machine.proofs.machine.KhepriMachine.delmany_outcome.Goals as goal
 
 pub dropped-requires : goal.dropped-requires
 dropped-requires g c =
@@ -22,4 +22,4 @@ returns-clause-value g c =
     let S : State = c.args.self.now in
     let all : c.as_slice.result.now ≡ matching parts S.tree = c.as_slice.ensures.value ∙ (c.in_ok-paths.ensures ∙ ap (λ (U : State). matching parts U.tree) c.self.view_is) in
     let some : 0 < length parts = omega (arith, ap length c.parts.ensures.value) in
-    subst (λ (r : Reply × State). IfOk c.dropped.result (λ o. r ≡ ended S o)) (ap (dropped S) all ∙ sym (delete_all_some S parts some)) c.dropped.ensures.value
+    subst (λ (r : Reply × State). IfOk c.dropped.result (λ o. r ≡ reply_and_next S o)) (ap (dropped S) all ∙ sym (delete_all_some S parts some)) c.dropped.ensures.value
