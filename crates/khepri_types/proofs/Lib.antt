@@ -41,3 +41,4 @@ pub mod Asking
 pub mod Layers
 pub mod LayersAgain
 pub mod PatternSpelling
+mod Commas

@@ -1,11 +1,14 @@
 // Conditions on a node.
-ghost use Rattle.std.specs.Prelude.{◌≡◌, IfOk, map};
+ghost use Rattle.std.specs.Prelude.{◌≡◌, length, IfOk, map};
+ghost use Rattle.khepri_terms.specs.Lengths.{capped};
+ghost use Rattle.khepri_types.specs.ConditionTexts.{condition_text};
 ghost use Rattle.khepri_types.specs.Conditions.{standing, is_payload, is_data, is_script, is_named, is_equal, has_field, holds, all_true, any_true};
 ghost use Rattle.std.specs.Option.{option_copied};
 ghost use Rattle.khepri_types.specs.Views.{seen_of};
 
 use crate::compare::Compare;
 use crate::glob::Glob;
+use crate::lengths::condition_len;
 use crate::node::Payload;
 use crate::view::NodeView;
 use khepri_terms::{Name, Rec, Scalar};
@@ -54,6 +57,13 @@ impl Condition {
         ensures { result ≡ holds self.now (seen_of (option_copied seen.entry)) }
     {
         holds(self, seen)
+    }
+
+    /// The length of its spelling; at `u64::MAX` and beyond, `u64::MAX`.
+    pub fn text_len(&self) -> u64
+        ensures { result ≡ capped (length (condition_text self.now)) }
+    {
+        condition_len(self)
     }
 
     /// A copy with memory of its own.

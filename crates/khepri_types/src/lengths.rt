@@ -8,10 +8,12 @@ ghost use Rattle.khepri_types.specs.Compares.{compare_text};
 ghost use Rattle.khepri_types.specs.ConditionTexts.{condition_text, joined};
 ghost use Rattle.khepri_types.specs.Globs.{glob_text, piece_text};
 
+use crate::compare::Compare;
+use crate::condition::Condition;
+use crate::glob::{Glob, GlobPiece};
 use itoa::Buffer;
 use khepri_terms::Kind;
 use khepri_terms::texts::byte_len;
-use khepri_types::{Compare, Condition, Glob, GlobPiece};
 
 fn kind_len(kind: Kind) -> u64
     ensures { result ≡ length (mark kind) }
@@ -41,14 +43,14 @@ fn pieces_len(pieces: &[GlobPiece]) -> u64
     len
 }
 
-#[tactic(auto, unfolding(khepri_types::specs::Globs::glob_text))]
+#[tactic(auto, unfolding(crate::specs::Globs::glob_text))]
 fn glob_len(glob: &Glob) -> u64
     ensures { result ≡ capped (length (glob_text glob.now)) }
 {
     pieces_len(glob.pieces.as_slice()).saturating_add(kind_len(glob.kind))
 }
 
-#[tactic(auto, unfolding(khepri_types::specs::Compares::compare_text))]
+#[tactic(auto, unfolding(crate::specs::Compares::compare_text))]
 fn compare_len(op: Compare) -> u64
     ensures len { result ≡ length (compare_text op) }
     ensures small { result ≤ 2 }
@@ -72,7 +74,7 @@ fn number_len(n: u64) -> u64
 
 // How long the spelling of a condition is, at most `u64::MAX`.
 #[cycle(lengths)]
-#[tactic(auto, unfolding(khepri_types::specs::ConditionTexts::layer_text))]
+#[tactic(auto, unfolding(crate::specs::ConditionTexts::layer_text))]
 pub(crate) fn condition_len(cond: &Condition) -> u64
     ensures { result ≡ capped (length (condition_text cond.now)) }
 {

@@ -9,6 +9,7 @@ mod compare;
 mod condition;
 mod glob;
 pub mod laws;
+mod lengths;
 pub mod limits;
 mod node;
 mod out;

@@ -9,5 +9,4 @@ pub mod Lefts
 pub mod ByteSums
 pub mod Touching
 pub mod Alls
-pub mod Commas
 pub mod Walking

@@ -8,7 +8,6 @@ mod copies;
 mod cut;
 mod draft;
 mod grow;
-mod lengths;
 mod next;
 mod nodes;
 mod sizes;

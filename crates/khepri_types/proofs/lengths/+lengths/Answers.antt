@@ -3,8 +3,8 @@ use Rattle.std.specs.List.{sum_by}
 use Rattle.std.proofs.lemmas.List.{take_all}
 use Rattle.khepri_types.specs.declared.condition.Condition.{Condition}
 use Rattle.khepri_types.specs.ConditionTexts.{condition_text, joined}
-use Rattle.tree_nodes.proofs.Commas.{joined_size, all_size, any_size}
-use Rattle.tree_nodes.proofs.lengths.+lengths.Goals as goal
+use Rattle.khepri_types.proofs.Commas.{joined_size, all_size, any_size}
+use Rattle.khepri_types.proofs.lengths.+lengths.Goals as goal
 
 pub condition_len-returns-in-All : goal.condition_len-returns-in-All
 condition_len-returns-in-All d c = omega (arith, c.saturating_add-in-All.ensures, c.conditions_len.ensures, ap (λ (ys : List Condition). length (joined (map condition_text ys))) c.as_slice.ensures, all_size c.args.cond.now c.in-All.parts c.in-All.is)
