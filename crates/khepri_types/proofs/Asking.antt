@@ -26,7 +26,7 @@ use Rattle.khepri_types.specs.Globs.{glob_text, IsGlob, glob_at}
 use Rattle.khepri_types.specs.Spelled.{IsNumber}
 use Rattle.khepri_types.specs.ConditionTexts.{IsKey}
 use Rattle.khepri_types.specs.Reading.{begins}
-use Rattle.khepri_types.specs.ReadingConditions.{after_byte, compare_at, as_key, key_at, name_asked, is_asked, field_asked, number_asked}
+use Rattle.khepri_types.specs.ReadingConditions.{after_byte, compare_at, as_key, key_at, name_asked, is_asked, field_value, field_op, field_asked, number_asked}
 use Rattle.khepri_types.proofs.Word.{if_read, word_takes}
 use Rattle.khepri_types.proofs.GlobSpelling.{glob_takes, glob_again}
 
@@ -123,7 +123,7 @@ behind key op x rest = comp_text key ++ 44 ∷ (compare_text op ++ 44 ∷ (scala
 
 pub field_asked_takes : (left : ℕ) (text : List ℕ) (x : Condition × ℕ × List ℕ) → field_asked left text ≡ Some x
     → (key : NameText) × (op : Compare) × (value : Scalar) × (rest : List ℕ) × (text ≡ behind key op value rest) × IsKey key × IsScalar value × ((c.Field key op value, left, rest) ≡ x)
-unfolding field_asked behind
+unfolding field_asked field_op field_value behind
 field_asked_takes left text x e =
     let a = bind_some (key_at text) (λ key. after_byte 44 key.1 >>= λ words. compare_at words >>= λ op. after_byte 44 op.1 >>= λ digits. scalar_at digits >>= λ value. after_byte 41 value.1 >>= λ rest. Some (c.Field key.0 op.0 value.0, left, rest)) x e in
     let b = bind_some (after_byte 44 a.0.1) (λ words. compare_at words >>= λ op. after_byte 44 op.1 >>= λ digits. scalar_at digits >>= λ value. after_byte 41 value.1 >>= λ rest. Some (c.Field a.0.0 op.0 value.0, left, rest)) x a.2 in
@@ -138,7 +138,7 @@ field_asked_takes left text x e =
     (a.0.0, o.0.0, v.0.0, r.0, k.0 ∙ ap (λ (t : List ℕ). comp_text a.0.0 ++ t) (after_takes 44 a.0.1 b.0 b.1 ∙ ap (λ (t : List ℕ). 44 ∷ t) words), k.1, s.1, some_is (c.Field a.0.0 o.0.0 v.0.0, left, r.0) x r.2)
 
 pub field_asked_again : (left : ℕ) (key : NameText) (op : Compare) (value : Scalar) (rest : List ℕ) → IsKey key → IsScalar value → field_asked left (behind key op value rest) ≡ Some (c.Field key op value, left, rest)
-unfolding field_asked behind is_plain
+unfolding field_asked field_op field_value behind is_plain
 field_asked_again left key op value rest is-key is-value =
     ap (λ (o : Option (NameText × List ℕ)). o >>= λ key. after_byte 44 key.1 >>= λ words. compare_at words >>= λ op. after_byte 44 op.1 >>= λ digits. scalar_at digits >>= λ value. after_byte 41 value.1 >>= λ rest. Some (c.Field key.0 op.0 value.0, left, rest)) (key_again key (compare_text op ++ 44 ∷ (scalar_text value ++ 41 ∷ rest)) is-key)
     ∙ (ap (λ (o : Option (List ℕ)). o >>= λ words. compare_at words >>= λ op. after_byte 44 op.1 >>= λ digits. scalar_at digits >>= λ value. after_byte 41 value.1 >>= λ rest. Some (c.Field key op.0 value.0, left, rest)) (comma_again (compare_text op ++ 44 ∷ (scalar_text value ++ 41 ∷ rest)))

@@ -22,7 +22,7 @@ use Rattle.khepri_types.specs.Globs.{glob_text}
 use Rattle.khepri_types.specs.Spelled.{IsNumber}
 use Rattle.khepri_types.specs.ConditionTexts.{joined, asked_text, number_text, layer_text, condition_text, layer_size, size, IsLayer, IsNested}
 use Rattle.khepri_types.specs.Reading.{begins}
-use Rattle.khepri_types.specs.ReadingConditions.{after_byte, name_asked, is_asked, field_asked, number_asked, comparing, list_end_at, before, uniting, not_asked, some_asked, list_asked, layer_at, nested_at}
+use Rattle.khepri_types.specs.ReadingConditions.{after_byte, name_asked, is_asked, field_asked, number_asked, comparing, list_end_at, before, uniting, asking_at, atom_at, not_asked, some_asked, list_asked, layer_at, nested_at}
 use Rattle.khepri_types.proofs.Word.{if_read, word_takes}
 use Rattle.khepri_types.proofs.Asking.{after_takes, behind, name_asked_takes, is_asked_takes, field_asked_takes, number_asked_takes}
 
@@ -219,8 +219,13 @@ united_was n k text x word opened make layer rolls spelled sized is o takes h e 
 -- ---- any condition
 
 layer_was : (n k : ℕ) (text : List ℕ) (x : Condition × ℕ × List ℕ) → Takes n → layer_at (nested_at n) k text ≡ Some x → Was (suc n) (suc k) text x
-unfolding layer_at layer_text layer_size
+unfolding layer_at atom_at asking_at layer_text layer_size
 layer_was n k text x takes e =
+    if_read (begins (codes "not(") text) _ _ x e (not_was n k text x takes) (λ e.
+    if_read (begins (codes "all(") text) _ _ x e
+    (united_was n k text x (codes "all") (codes "all(") c.All Condition-F.All rolls-All (λ vs. fold-roll-Condition (List ℕ) layer_text (Condition-F.All vs)) (λ vs. fold-roll-Condition ℕ layer_size (Condition-F.All vs)) (λ vs all. all) refl takes) (λ e.
+    if_read (begins (codes "any(") text) _ _ x e
+    (united_was n k text x (codes "any") (codes "any(") c.Any Condition-F.Any rolls-Any (λ vs. fold-roll-Condition (List ℕ) layer_text (Condition-F.Any vs)) (λ vs. fold-roll-Condition ℕ layer_size (Condition-F.Any vs)) (λ vs all. all) refl takes) (λ e.
     if_read (begins (codes "absent") text) _ _ x e (word_was n k text x (codes "absent") Condition-F.Absent c.Absent rolls-Absent (fold-roll-Condition (List ℕ) layer_text Condition-F.Absent) (fold-roll-Condition ℕ layer_size Condition-F.Absent) tt) (λ e.
     if_read (begins (codes "exists") text) _ _ x e (word_was n k text x (codes "exists") Condition-F.Exists c.Exists rolls-Exists (fold-roll-Condition (List ℕ) layer_text Condition-F.Exists) (fold-roll-Condition ℕ layer_size Condition-F.Exists) tt) (λ e.
     if_read (begins (codes "payload") text) _ _ x e (word_was n k text x (codes "payload") Condition-F.Payload c.Payload rolls-Payload (fold-roll-Condition (List ℕ) layer_text Condition-F.Payload) (fold-roll-Condition ℕ layer_size Condition-F.Payload) tt) (λ e.
@@ -235,11 +240,6 @@ layer_was n k text x takes e =
     (number_was n k text x (codes "cv") (codes "cv(") c.Cv Condition-F.Cv rolls-Cv (λ op m. fold-roll-Condition (List ℕ) layer_text (Condition-F.Cv op m)) (λ op m. fold-roll-Condition ℕ layer_size (Condition-F.Cv op m)) (λ op m is. is) refl) (λ e.
     if_read (begins (codes "kids(") text) _ _ x e
     (number_was n k text x (codes "kids") (codes "kids(") c.Kids Condition-F.Kids rolls-Kids (λ op m. fold-roll-Condition (List ℕ) layer_text (Condition-F.Kids op m)) (λ op m. fold-roll-Condition ℕ layer_size (Condition-F.Kids op m)) (λ op m is. is) refl) (λ e.
-    if_read (begins (codes "not(") text) _ _ x e (not_was n k text x takes) (λ e.
-    if_read (begins (codes "all(") text) _ _ x e
-    (united_was n k text x (codes "all") (codes "all(") c.All Condition-F.All rolls-All (λ vs. fold-roll-Condition (List ℕ) layer_text (Condition-F.All vs)) (λ vs. fold-roll-Condition ℕ layer_size (Condition-F.All vs)) (λ vs all. all) refl takes) (λ e.
-    if_read (begins (codes "any(") text) _ _ x e
-    (united_was n k text x (codes "any") (codes "any(") c.Any Condition-F.Any rolls-Any (λ vs. fold-roll-Condition (List ℕ) layer_text (Condition-F.Any vs)) (λ vs. fold-roll-Condition ℕ layer_size (Condition-F.Any vs)) (λ vs all. all) refl takes) (λ e.
     absurd cc))))))))))))))
 
 pub nested_was : (n left : ℕ) (text : List ℕ) (x : Condition × ℕ × List ℕ) → nested_at n left text ≡ Some x → Was n left text x

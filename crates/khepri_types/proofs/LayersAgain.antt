@@ -15,7 +15,7 @@ use Rattle.khepri_types.specs.declared.condition.Condition.TheOpen.{Condition-F}
 use Rattle.khepri_types.specs.Compares.{compare_text}
 use Rattle.khepri_types.specs.Globs.{glob_text}
 use Rattle.khepri_types.specs.ConditionTexts.{joined, asked_text, number_text, layer_text, condition_text, layer_size, size, IsLayer, IsNested}
-use Rattle.khepri_types.specs.ReadingConditions.{after_byte, Reading, name_asked, is_asked, field_asked, number_asked, comparing, list_end_at, before, uniting, not_asked, some_asked, list_asked, layer_at, nested_at}
+use Rattle.khepri_types.specs.ReadingConditions.{after_byte, Reading, name_asked, is_asked, field_asked, number_asked, comparing, list_end_at, before, uniting, asking_at, atom_at, not_asked, some_asked, list_asked, layer_at, nested_at}
 use Rattle.khepri_types.proofs.Asking.{close_again, name_asked_again, is_asked_again, field_asked_again, number_asked_again}
 use Rattle.khepri_types.proofs.Layers.{words, behind_is, joined_one, joined_more}
 
@@ -90,13 +90,13 @@ some_again n (suc m) left (x ∷ y ∷ xs) rest again lt le all fits =
     ∙ ap (λ (k : ℕ). Some (x ∷ y ∷ xs, k, rest)) (less (sum (map size (x ∷ y ∷ xs))) (size x) (sum (map size (y ∷ xs))) left s))))
 
 close_none : (n left : ℕ) (text : List ℕ) → nested_at n left (41 ∷ text) ≡ None
-unfolding nested_at layer_at
+unfolding nested_at layer_at atom_at asking_at
 close_none zero left text = refl
 close_none (suc n) zero text = refl
 close_none (suc n) (suc left) text = refl
 
 empty_none : (n left : ℕ) → nested_at n left [] ≡ None
-unfolding nested_at layer_at
+unfolding nested_at layer_at atom_at asking_at
 empty_none zero left = refl
 empty_none (suc n) zero = refl
 empty_none (suc n) (suc left) = refl
@@ -145,7 +145,7 @@ not_again n k x rest again is fits =
     ∙ ap (λ (o : Option (List ℕ)). o >>= λ rest. Some (c.Not x, k - size x, rest)) (close_again rest)
 
 layer_again : (n k : ℕ) (l : Condition-F Condition) (rest : List ℕ) → Again n → IsLayer (IsNested n) l → size (roll-Condition l) ≤ suc k → layer_at (nested_at n) k (condition_text (roll-Condition l) ++ rest) ≡ Some (roll-Condition l, suc k - size (roll-Condition l), rest)
-unfolding layer_at layer_text layer_size
+unfolding layer_at atom_at asking_at layer_text layer_size
 layer_again n k Condition-F.Absent rest again is fits = spelled n k rest (codes "absent") Condition-F.Absent (fold-roll-Condition (List ℕ) layer_text Condition-F.Absent) ∙ settled k rest Condition-F.Absent c.Absent rolls-Absent (fold-roll-Condition ℕ layer_size Condition-F.Absent)
 layer_again n k Condition-F.Exists rest again is fits = spelled n k rest (codes "exists") Condition-F.Exists (fold-roll-Condition (List ℕ) layer_text Condition-F.Exists) ∙ settled k rest Condition-F.Exists c.Exists rolls-Exists (fold-roll-Condition ℕ layer_size Condition-F.Exists)
 layer_again n k Condition-F.Payload rest again is fits = spelled n k rest (codes "payload") Condition-F.Payload (fold-roll-Condition (List ℕ) layer_text Condition-F.Payload) ∙ settled k rest Condition-F.Payload c.Payload rolls-Payload (fold-roll-Condition ℕ layer_size Condition-F.Payload)

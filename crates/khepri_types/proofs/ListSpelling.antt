@@ -18,11 +18,11 @@ use Rattle.khepri_types.specs.declared.reply.Reply.TheVariants as reply
 use Rattle.khepri_types.specs.declared.shown.ShownNode.{ShownNode}
 use Rattle.khepri_types.specs.Reading.{payload_at}
 use Rattle.khepri_types.specs.ReadingConditions.{after_byte}
-use Rattle.khepri_types.specs.ReadingNumbers.{number_before}
-use Rattle.khepri_types.specs.ReadingOut.{shown_at, whole_nodes, nodes_at}
+use Rattle.khepri_types.specs.ReadingNumbers.{three_before}
+use Rattle.khepri_types.specs.ReadingOut.{shown_content, shown_at, whole_nodes, nodes_at}
 use Rattle.khepri_types.specs.Spelled.{IsNumber, IsShownNode, IsReply}
 use Rattle.khepri_types.specs.Texts.{payload_text, shown_text, reply_text}
-use Rattle.khepri_types.proofs.NumberSpelling.{joined, before_takes, space_again}
+use Rattle.khepri_types.proofs.NumberSpelling.{joined, three_takes, three_again}
 use Rattle.khepri_types.proofs.PayloadSpelling.{payload_takes, payload_again}
 use Rattle.khepri_types.proofs.Word.{after_byte-takes}
 
@@ -44,66 +44,49 @@ shown_parts s rest =
 abbrev from_payload : List NameText → ℕ → ℕ → ℕ → List ℕ → Option (ShownNode × List ℕ)
 from_payload p pv cv kids text = payload_at text >>= λ y. Some (record { path = p; pv = pv; cv = cv; kids = kids; payload = y.0 }, y.1)
 
-abbrev from_kids : List NameText → ℕ → ℕ → List ℕ → Option (ShownNode × List ℕ)
-from_kids p pv cv text = number_before (codes " ") text >>= λ k. from_payload p pv cv k.0 k.1
-
-abbrev from_cv : List NameText → ℕ → List ℕ → Option (ShownNode × List ℕ)
-from_cv p pv text = number_before (codes " ") text >>= λ c. from_kids p pv c.0 c.1
-
-abbrev from_pv : List NameText → List ℕ → Option (ShownNode × List ℕ)
-from_pv p text = number_before (codes " ") text >>= λ v. from_cv p v.0 v.1
-
 abbrev from_path : List ℕ → Option (ShownNode × List ℕ)
-from_path text = path_at text >>= λ p. after_byte 32 p.1 >>= λ t. from_pv p.0 t
+from_path text = path_at text >>= λ p. after_byte 32 p.1 >>= λ t. shown_content p.0 t
 
 abbrev SpellsShown : List ℕ → ShownNode × List ℕ → Type 0
 SpellsShown text x = (text ≡ shown_text x.0 ++ x.1) × IsShownNode x.0
 
 shown_takes : (text : List ℕ) (x : ShownNode × List ℕ) → shown_at text ≡ Some x → SpellsShown text x
-unfolding shown_at
+unfolding shown_at shown_content
 shown_takes text x e =
     let a = bind_some (after_byte 32 text) from_path x e in
-    let b = bind_some (path_at a.0) (λ p. after_byte 32 p.1 >>= λ t. from_pv p.0 t) x a.2 in
-    let c = bind_some (after_byte 32 b.0.1) (from_pv b.0.0) x b.2 in
-    let v = bind_some (number_before (codes " ") c.0) (λ v. from_cv b.0.0 v.0 v.1) x c.2 in
-    let d = bind_some (number_before (codes " ") v.0.1) (λ d. from_kids b.0.0 v.0.0 d.0 d.1) x v.2 in
-    let k = bind_some (number_before (codes " ") d.0.1) (λ k. from_payload b.0.0 v.0.0 d.0.0 k.0 k.1) x d.2 in
-    let y = bind_some (payload_at k.0.1) (λ y. Some (record { path = b.0.0; pv = v.0.0; cv = d.0.0; kids = k.0.0; payload = y.0 }, y.1)) x k.2 in
-    let node : ShownNode = record { path = b.0.0; pv = v.0.0; cv = d.0.0; kids = k.0.0; payload = y.0.0 } in
+    let b = bind_some (path_at a.0) (λ p. after_byte 32 p.1 >>= λ t. shown_content p.0 t) x a.2 in
+    let c = bind_some (after_byte 32 b.0.1) (shown_content b.0.0) x b.2 in
+    let n = bind_some (three_before c.0) (λ n. from_payload b.0.0 n.0 n.1 n.2 n.3) x c.2 in
+    let y = bind_some (payload_at n.0.3) (λ y. Some (record { path = b.0.0; pv = n.0.0; cv = n.0.1; kids = n.0.2; payload = y.0 }, y.1)) x n.2 in
+    let node : ShownNode = record { path = b.0.0; pv = n.0.0; cv = n.0.1; kids = n.0.2; payload = y.0.0 } in
     let path = path_takes a.0 b.0 b.1 in
-    let pv = before_takes (codes " ") c.0 v.0 v.1 in
-    let cv = before_takes (codes " ") v.0.1 d.0 d.1 in
-    let kids = before_takes (codes " ") d.0.1 k.0 k.1 in
-    let payload = payload_takes k.0.1 y.0 y.1 in
-    let from3 : d.0.1 ≡ decimal k.0.0 ++ 32 ∷ (payload_text y.0.0 ++ y.0.1) = kids.0 ∙ ap (λ (t : List ℕ). decimal k.0.0 ++ 32 ∷ t) payload.0 in
-    let from2 : v.0.1 ≡ decimal d.0.0 ++ 32 ∷ (decimal k.0.0 ++ 32 ∷ (payload_text y.0.0 ++ y.0.1)) = cv.0 ∙ ap (λ (t : List ℕ). decimal d.0.0 ++ 32 ∷ t) from3 in
-    let from1 : c.0 ≡ decimal v.0.0 ++ 32 ∷ (decimal d.0.0 ++ 32 ∷ (decimal k.0.0 ++ 32 ∷ (payload_text y.0.0 ++ y.0.1))) = pv.0 ∙ ap (λ (t : List ℕ). decimal v.0.0 ++ 32 ∷ t) from2 in
-    let whole : a.0 ≡ path_text b.0.0 ++ 32 ∷ (decimal v.0.0 ++ 32 ∷ (decimal d.0.0 ++ 32 ∷ (decimal k.0.0 ++ 32 ∷ (payload_text y.0.0 ++ y.0.1)))) =
-    path.0 ∙ ap (λ (t : List ℕ). path_text b.0.0 ++ t) (after_byte-takes 32 b.0.1 c.0 c.1 ∙ ap (λ (t : List ℕ). 32 ∷ t) from1) in
+    let numbers = three_takes c.0 n.0 n.1 in
+    let payload = payload_takes n.0.3 y.0 y.1 in
+    let content : c.0 ≡ decimal n.0.0 ++ 32 ∷ (decimal n.0.1 ++ 32 ∷ (decimal n.0.2 ++ 32 ∷ (payload_text y.0.0 ++ y.0.1))) =
+    numbers.0 ∙ ap (λ (t : List ℕ). decimal n.0.0 ++ 32 ∷ (decimal n.0.1 ++ 32 ∷ (decimal n.0.2 ++ 32 ∷ t))) payload.0 in
+    let whole : a.0 ≡ path_text b.0.0 ++ 32 ∷ (decimal n.0.0 ++ 32 ∷ (decimal n.0.1 ++ 32 ∷ (decimal n.0.2 ++ 32 ∷ (payload_text y.0.0 ++ y.0.1)))) =
+    path.0 ∙ ap (λ (t : List ℕ). path_text b.0.0 ++ t) (after_byte-takes 32 b.0.1 c.0 c.1 ∙ ap (λ (t : List ℕ). 32 ∷ t) content) in
     subst (SpellsShown text) (some_is (node, y.0.1) x y.2)
-    (after_byte-takes 32 text a.0 a.1 ∙ (ap (λ (t : List ℕ). 32 ∷ t) whole ∙ sym (shown_parts node y.0.1)), record { path = path.1; pv = pv.1; cv = cv.1; kids = kids.1; payload = payload.1 })
+    (after_byte-takes 32 text a.0 a.1 ∙ (ap (λ (t : List ℕ). 32 ∷ t) whole ∙ sym (shown_parts node y.0.1)), record { path = path.1; pv = numbers.1.0; cv = numbers.1.1; kids = numbers.1.2; payload = payload.1 })
 
 behind_space : (text : List ℕ) → shown_at (32 ∷ text) ≡ from_path text
 unfolding shown_at after_byte
 behind_space text = refl
 
-behind_path : (p : List NameText) (text : List ℕ) → IsPath p → from_path (path_text p ++ 32 ∷ text) ≡ from_pv p text
+behind_path : (p : List NameText) (text : List ℕ) → IsPath p → from_path (path_text p ++ 32 ∷ text) ≡ shown_content p text
 unfolding is_plain after_byte
-behind_path p text is = ap (λ (o : Option (List NameText × List ℕ)). o >>= λ q. after_byte 32 q.1 >>= λ t. from_pv q.0 t) (path_again p (32 ∷ text) is refl)
+behind_path p text is = ap (λ (o : Option (List NameText × List ℕ)). o >>= λ q. after_byte 32 q.1 >>= λ t. shown_content q.0 t) (path_again p (32 ∷ text) is refl)
+
+content_again : (s : ShownNode) (rest : List ℕ) → IsShownNode s → shown_content s.path (decimal s.pv ++ 32 ∷ (decimal s.cv ++ 32 ∷ (decimal s.kids ++ 32 ∷ (payload_text s.payload ++ rest)))) ≡ Some (s, rest)
+unfolding shown_content
+content_again s rest is =
+    ap (λ (o : Option (ℕ × ℕ × ℕ × List ℕ)). o >>= λ n. from_payload s.path n.0 n.1 n.2 n.3) (three_again s.pv s.cv s.kids (payload_text s.payload ++ rest) is.pv is.cv is.kids)
+    ∙ ap (λ (o : Option (Payload × List ℕ)). o >>= λ y. Some (record { path = s.path; pv = s.pv; cv = s.cv; kids = s.kids; payload = y.0 }, y.1)) (payload_again s.payload rest is.payload)
 
 shown_again : (s : ShownNode) (rest : List ℕ) → IsShownNode s → shown_at (shown_text s ++ rest) ≡ Some (s, rest)
 shown_again s rest is =
-    let after_kids : List ℕ = payload_text s.payload ++ rest in
-    let after_cv : List ℕ = decimal s.kids ++ 32 ∷ after_kids in
-    let after_pv : List ℕ = decimal s.cv ++ 32 ∷ after_cv in
-    let after_path : List ℕ = decimal s.pv ++ 32 ∷ after_pv in
-    ap shown_at (shown_parts s rest)
-    ∙ (behind_space (path_text s.path ++ 32 ∷ after_path)
-    ∙ (behind_path s.path after_path is.path
-    ∙ (ap (λ (o : Option (ℕ × List ℕ)). o >>= λ v. from_cv s.path v.0 v.1) (space_again s.pv after_pv is.pv)
-    ∙ (ap (λ (o : Option (ℕ × List ℕ)). o >>= λ c. from_kids s.path s.pv c.0 c.1) (space_again s.cv after_cv is.cv)
-    ∙ (ap (λ (o : Option (ℕ × List ℕ)). o >>= λ k. from_payload s.path s.pv s.cv k.0 k.1) (space_again s.kids after_kids is.kids)
-    ∙ ap (λ (o : Option (Payload × List ℕ)). o >>= λ y. Some (record { path = s.path; pv = s.pv; cv = s.cv; kids = s.kids; payload = y.0 }, y.1)) (payload_again s.payload rest is.payload))))))
+    let content : List ℕ = decimal s.pv ++ 32 ∷ (decimal s.cv ++ 32 ∷ (decimal s.kids ++ 32 ∷ (payload_text s.payload ++ rest))) in
+    ap shown_at (shown_parts s rest) ∙ (behind_space (path_text s.path ++ 32 ∷ content) ∙ (behind_path s.path content is.path ∙ content_again s rest is))
 
 -- ---- all nodes
 

@@ -7,7 +7,7 @@ use Rattle.khepri_terms.proofs.Cases.{bind_some, guard_some, some_is}
 use Rattle.khepri_terms.proofs.NumbersLaws.{number_takes, number_again}
 use Rattle.khepri_types.specs.declared.limits.TheConstants.{MAX_NUMBER}
 use Rattle.khepri_types.specs.Ranges.{IsNumber}
-use Rattle.khepri_types.specs.ReadingNumbers.{number_before, whole_number, spelled_number}
+use Rattle.khepri_types.specs.ReadingNumbers.{number_before, three_before, whole_number, spelled_number}
 use Rattle.khepri_types.specs.Words.{begins, after_word}
 use Rattle.khepri_types.proofs.Word.{word_takes}
 
@@ -32,6 +32,29 @@ space_again n rest le = ap (λ (o : Option (ℕ × List ℕ)). o >>= λ x. after
 pub at_again : (n : ℕ) (rest : List ℕ) → IsNumber n → number_before (codes " @") (decimal n ++ 32 ∷ 64 ∷ rest) ≡ Some (n, rest)
 unfolding number_before after_word
 at_again n rest le = ap (λ (o : Option (ℕ × List ℕ)). o >>= λ x. after_word (codes " @") x.1 >>= λ r. Some (x.0, r)) (number_again MAX_NUMBER n (32 ∷ 64 ∷ rest) le (omega (arith, le)) refl)
+
+-- the text begins with three numbers and a space behind each
+abbrev pub SpellsThree : List ℕ → ℕ × ℕ × ℕ × List ℕ → Type 0
+SpellsThree text x = (text ≡ decimal x.0 ++ 32 ∷ (decimal x.1 ++ 32 ∷ (decimal x.2 ++ 32 ∷ x.3))) × (IsNumber x.0 × IsNumber x.1 × IsNumber x.2)
+
+pub three_takes : (text : List ℕ) (x : ℕ × ℕ × ℕ × List ℕ) → three_before text ≡ Some x → SpellsThree text x
+unfolding three_before
+three_takes text x e =
+    let a = bind_some (number_before (codes " ") text) (λ pv. number_before (codes " ") pv.1 >>= λ cv. number_before (codes " ") cv.1 >>= λ kids. Some (pv.0, cv.0, kids.0, kids.1)) x e in
+    let b = bind_some (number_before (codes " ") a.0.1) (λ cv. number_before (codes " ") cv.1 >>= λ kids. Some (a.0.0, cv.0, kids.0, kids.1)) x a.2 in
+    let c = bind_some (number_before (codes " ") b.0.1) (λ kids. Some (a.0.0, b.0.0, kids.0, kids.1)) x b.2 in
+    let pv = before_takes (codes " ") text a.0 a.1 in
+    let cv = before_takes (codes " ") a.0.1 b.0 b.1 in
+    let kids = before_takes (codes " ") b.0.1 c.0 c.1 in
+    subst (SpellsThree text) (some_is (a.0.0, b.0.0, c.0.0, c.0.1) x c.2)
+    (pv.0 ∙ ap (λ (t : List ℕ). decimal a.0.0 ++ 32 ∷ t) (cv.0 ∙ ap (λ (t : List ℕ). decimal b.0.0 ++ 32 ∷ t) kids.0), (pv.1, cv.1, kids.1))
+
+pub three_again : (pv cv kids : ℕ) (rest : List ℕ) → IsNumber pv → IsNumber cv → IsNumber kids → three_before (decimal pv ++ 32 ∷ (decimal cv ++ 32 ∷ (decimal kids ++ 32 ∷ rest))) ≡ Some (pv, cv, kids, rest)
+unfolding three_before
+three_again pv cv kids rest is-pv is-cv is-kids =
+    ap (λ (o : Option (ℕ × List ℕ)). o >>= λ a. number_before (codes " ") a.1 >>= λ b. number_before (codes " ") b.1 >>= λ c. Some (a.0, b.0, c.0, c.1)) (space_again pv (decimal cv ++ 32 ∷ (decimal kids ++ 32 ∷ rest)) is-pv)
+    ∙ (ap (λ (o : Option (ℕ × List ℕ)). o >>= λ b. number_before (codes " ") b.1 >>= λ c. Some (pv, b.0, c.0, c.1)) (space_again cv (decimal kids ++ 32 ∷ rest) is-cv)
+    ∙ ap (λ (o : Option (ℕ × List ℕ)). o >>= λ c. Some (pv, cv, c.0, c.1)) (space_again kids rest is-kids))
 
 pub whole_number_is : (o : Option (ℕ × List ℕ)) (n : ℕ) → whole_number o ≡ Some n → o ≡ Some (n, [])
 whole_number_is None n e = absurd cc

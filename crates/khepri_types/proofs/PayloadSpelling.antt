@@ -17,7 +17,7 @@ use Rattle.khepri_types.specs.declared.watch.Watching.{Watching}
 use Rattle.khepri_types.specs.ReadingConditions.{after_byte}
 use Rattle.khepri_types.specs.Texts.{payload_text, watching_text, assigned_text}
 use Rattle.khepri_types.specs.Spelled.{IsPayload, IsWatching}
-use Rattle.khepri_types.specs.Reading.{begins, is_word, whole_record, spelled_payload, whole_path, spelled_path, fields_at, payload_at, spelled_watching, Assigned, spelled_assigned}
+use Rattle.khepri_types.specs.Reading.{begins, is_word, whole_record, spelled_payload, whole_path, spelled_path, fields_at, payload_at, spelled_watching, spelled_set, Assigned, spelled_assigned}
 use Rattle.khepri_types.proofs.WatchSpelling.{spelled_watching-takes, spelled_watching-again}
 use Rattle.khepri_types.proofs.Word.{if_read, word_takes, after_byte-takes}
 
@@ -92,6 +92,27 @@ payload_again (Fields r) rest is =
 
 -- ---- what a command sets
 
+-- the text is a space, and the spelling of this payload and of what is said of watches
+abbrev pub SpellsSet : List ℕ → Payload × Watching → Type 0
+SpellsSet text s = (text ≡ 32 ∷ (payload_text s.0 ++ watching_text s.1)) × (IsPayload s.0 × IsWatching s.1)
+
+pub set_takes : (text : List ℕ) (s : Payload × Watching) → spelled_set text ≡ Some s → SpellsSet text s
+unfolding spelled_set
+set_takes text s e =
+    let t = bind_some (after_byte 32 text) (λ t. payload_at t >>= λ payload. spelled_watching payload.1 >>= λ w. Some (payload.0, w)) s e in
+    let y = bind_some (payload_at t.0) (λ payload. spelled_watching payload.1 >>= λ w. Some (payload.0, w)) s t.2 in
+    let w = bind_some (spelled_watching y.0.1) (λ w. Some (y.0.0, w)) s y.2 in
+    let payload = payload_takes t.0 y.0 y.1 in
+    let watch = spelled_watching-takes y.0.1 w.0 w.1 in
+    subst (SpellsSet text) (some_is (y.0.0, w.0) s w.2)
+    (after_byte-takes 32 text t.0 t.1 ∙ ap (λ (r : List ℕ). 32 ∷ r) (payload.0 ∙ ap (λ (r : List ℕ). payload_text y.0.0 ++ r) watch.0), (payload.1, watch.1))
+
+pub set_again : (x : Payload) (w : Watching) → IsPayload x → IsWatching w → spelled_set (32 ∷ (payload_text x ++ watching_text w)) ≡ Some (x, w)
+unfolding spelled_set after_byte
+set_again x w is-payload is-watching =
+    ap (λ (o : Option (Payload × List ℕ)). o >>= λ payload. spelled_watching payload.1 >>= λ v. Some (payload.0, v)) (payload_again x (watching_text w) is-payload)
+    ∙ ap (λ (o : Option Watching). o >>= λ v. Some (x, v)) (spelled_watching-again w is-watching)
+
 assigned_parts : (p : List NameText) (x : Payload) (w : Watching) → path_text p ++ 32 ∷ payload_text x ++ watching_text w ≡ path_text p ++ 32 ∷ (payload_text x ++ watching_text w)
 assigned_parts p x w = append_assoc (path_text p) (32 ∷ payload_text x) (watching_text w)
 
@@ -102,27 +123,20 @@ SpellsAssigned text a = (text ≡ assigned_text a.path a.payload a.watch) × (Is
 pub spelled_assigned-takes : (text : List ℕ) (a : Assigned) → spelled_assigned text ≡ Some a → SpellsAssigned text a
 unfolding spelled_assigned assigned_text
 spelled_assigned-takes text a e =
-    let p = bind_some (path_at text) (λ path. after_byte 32 path.1 >>= λ t. payload_at t >>= λ payload. spelled_watching payload.1 >>= λ w. Some (record { path = path.0; payload = payload.0; watch = w })) a e in
-    let t = bind_some (after_byte 32 p.0.1) (λ t. payload_at t >>= λ payload. spelled_watching payload.1 >>= λ w. Some (record { path = p.0.0; payload = payload.0; watch = w })) a p.2 in
-    let y = bind_some (payload_at t.0) (λ payload. spelled_watching payload.1 >>= λ w. Some (record { path = p.0.0; payload = payload.0; watch = w })) a t.2 in
-    let w = bind_some (spelled_watching y.0.1) (λ w. Some (record { path = p.0.0; payload = y.0.0; watch = w })) a y.2 in
+    let p = bind_some (path_at text) (λ path. spelled_set path.1 >>= λ s. Some (record { path = path.0; payload = s.0; watch = s.1 })) a e in
+    let s = bind_some (spelled_set p.0.1) (λ s. Some (record { path = p.0.0; payload = s.0; watch = s.1 })) a p.2 in
     let path = path_takes text p.0 p.1 in
-    let space : p.0.1 ≡ 32 ∷ t.0 = after_byte-takes 32 p.0.1 t.0 t.1 in
-    let payload = payload_takes t.0 y.0 y.1 in
-    let watch = spelled_watching-takes y.0.1 w.0 w.1 in
-    let whole : text ≡ path_text p.0.0 ++ 32 ∷ (payload_text y.0.0 ++ watching_text w.0) =
-    path.0 ∙ ap (λ (r : List ℕ). path_text p.0.0 ++ r) (space ∙ ap (λ (r : List ℕ). 32 ∷ r) (payload.0 ∙ ap (λ (r : List ℕ). payload_text y.0.0 ++ r) watch.0)) in
-    subst (SpellsAssigned text) (some_is (record { path = p.0.0; payload = y.0.0; watch = w.0 }) a w.2) (whole ∙ sym (assigned_parts p.0.0 y.0.0 w.0), (path.1, payload.1, watch.1))
+    let set = set_takes p.0.1 s.0 s.1 in
+    let whole : text ≡ path_text p.0.0 ++ 32 ∷ (payload_text s.0.0 ++ watching_text s.0.1) = path.0 ∙ ap (λ (r : List ℕ). path_text p.0.0 ++ r) set.0 in
+    subst (SpellsAssigned text) (some_is (record { path = p.0.0; payload = s.0.0; watch = s.0.1 }) a s.2) (whole ∙ sym (assigned_parts p.0.0 s.0.0 s.0.1), (path.1, set.1.0, set.1.1))
 
-behind_path : (p : List NameText) (text : List ℕ) → IsPath p → spelled_assigned (path_text p ++ 32 ∷ text) ≡ (payload_at text >>= λ payload. spelled_watching payload.1 >>= λ w. Some (record { path = p; payload = payload.0; watch = w }))
-unfolding spelled_assigned is_plain after_byte
-behind_path p text is =
-    ap (λ (o : Option (List NameText × List ℕ)). o >>= λ path. after_byte 32 path.1 >>= λ t. payload_at t >>= λ payload. spelled_watching payload.1 >>= λ w. Some (record { path = path.0; payload = payload.0; watch = w })) (path_again p (32 ∷ text) is refl)
+behind_path : (p : List NameText) (text : List ℕ) → IsPath p → spelled_assigned (path_text p ++ 32 ∷ text) ≡ (spelled_set (32 ∷ text) >>= λ s. Some (record { path = p; payload = s.0; watch = s.1 }))
+unfolding spelled_assigned is_plain
+behind_path p text is = ap (λ (o : Option (List NameText × List ℕ)). o >>= λ path. spelled_set path.1 >>= λ s. Some (record { path = path.0; payload = s.0; watch = s.1 })) (path_again p (32 ∷ text) is refl)
 
 pub spelled_assigned-again : (p : List NameText) (x : Payload) (w : Watching) → IsPath p → IsPayload x → IsWatching w → spelled_assigned (assigned_text p x w) ≡ Some (record { path = p; payload = x; watch = w })
 unfolding assigned_text
 spelled_assigned-again p x w is-path is-payload is-watching =
     ap spelled_assigned (assigned_parts p x w)
     ∙ (behind_path p (payload_text x ++ watching_text w) is-path
-    ∙ (ap (λ (o : Option (Payload × List ℕ)). o >>= λ payload. spelled_watching payload.1 >>= λ v. Some (record { path = p; payload = payload.0; watch = v })) (payload_again x (watching_text w) is-payload)
-    ∙ ap (λ (o : Option Watching). o >>= λ v. Some (record { path = p; payload = x; watch = v })) (spelled_watching-again w is-watching)))
+    ∙ ap (λ (o : Option (Payload × Watching)). o >>= λ s. Some (record { path = p; payload = s.0; watch = s.1 })) (set_again x w is-payload is-watching))

@@ -16,7 +16,7 @@ use Rattle.khepri_types.specs.declared.watch.Watching.{Watching}
 use Rattle.khepri_types.specs.PatternTexts.{pattern_text, IsPattern}
 use Rattle.khepri_types.specs.Texts.{assigned_text, command_text, line_text}
 use Rattle.khepri_types.specs.Spelled.{IsNode, IsPayload, IsWatching, IsCommand, IsLine}
-use Rattle.khepri_types.specs.Reading.{begins, spelled_path, Assigned, spelled_assigned, assigning, naming, spelled_cas, spelled_pattern, scanning, spelled_many, spelled_command, asked, line_at}
+use Rattle.khepri_types.specs.Reading.{begins, spelled_path, Assigned, spelled_assigned, assigning, naming, spelled_cas, spelled_pattern, scanning, spelled_many, deleting_or_asking, spelled_command, asked, line_at}
 use Rattle.khepri_types.proofs.AskedSpelling.{spelled_pattern-takes, spelled_pattern-again, cas_takes, cas_again, many_command-takes, many_command-again}
 pub use Rattle.khepri_types.proofs.PayloadSpelling.{spelled_payload-takes, spelled_payload-again, spelled_path-takes, spelled_path-again, payload_takes, payload_again, spelled_assigned-takes, spelled_assigned-again}
 use Rattle.khepri_types.proofs.Word.{if_read, word_takes}
@@ -102,7 +102,7 @@ count_text parts = refl
 
 -- what is read as a command has a spelling, and is spelled so
 pub spelled_command-takes : (text : List ℕ) (c : Command) → spelled_command text ≡ Some c → (text ≡ command_text c) × IsCommand c
-unfolding spelled_command
+unfolding spelled_command deleting_or_asking
 spelled_command-takes text c e =
     if_read {P = (text ≡ command_text c) × IsCommand c} (begins (codes "put ") text) (assigning Put (spelled_assigned (drop 4 text))) _ c e (assigning_takes Put (codes "put ") text c put_text (λ p x w is. is))
     (λ e. if_read {P = (text ≡ command_text c) × IsCommand c} (begins (codes "create ") text) (assigning Create (spelled_assigned (drop 7 text))) _ c e (assigning_takes Create (codes "create ") text c create_text (λ p x w is. is))
@@ -118,7 +118,7 @@ spelled_command-takes text c e =
 
 -- what is spelled as a command is read again
 pub spelled_command-again : (c : Command) → IsCommand c → spelled_command (command_text c) ≡ Some c
-unfolding spelled_command command_text
+unfolding spelled_command deleting_or_asking command_text
 spelled_command-again (Put p x w) is = ap (assigning Put) (spelled_assigned-again p x w is.0 is.1 is.2)
 spelled_command-again (Create p x w) is = ap (assigning Create) (spelled_assigned-again p x w is.0 is.1 is.2)
 spelled_command-again (Update p x w) is = ap (assigning Update) (spelled_assigned-again p x w is.0 is.1 is.2)

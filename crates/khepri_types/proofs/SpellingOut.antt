@@ -25,10 +25,10 @@ use Rattle.khepri_types.specs.declared.out.OutLine.TheVariants as out
 use Rattle.khepri_types.specs.Texts.{payload_text, command_text, reply_text, entry_text, reason_text, stop_text, rows_text, out_text}
 use Rattle.khepri_types.specs.Spelled.{IsNumber, IsNode, IsPayload, IsCommand, IsReply, IsEntryText, HasSpelling}
 use Rattle.khepri_types.specs.Reading.{begins, is_word, spelled_payload, spelled_path, spelled_command}
-use Rattle.khepri_types.specs.ReadingNumbers.{number_before, spelled_number}
+use Rattle.khepri_types.specs.ReadingNumbers.{number_before, three_before, spelled_number}
 use Rattle.khepri_types.specs.ReadingOut.{changed_at, node_at, nodes_at, count_at, while_no, spelled_no, spelled_reply, command_entry, fire_entry, older_entry, spelled_entry, spelled_reason, spelled_stop, spelled_rows, entry_line, reply_line, refused_line, end_line, pending_line, rows_line, leads_line, follows_line, stopped_line, node_news, node_line, out_at}
 use Rattle.khepri_types.proofs.Word.{if_read, word_takes}
-use Rattle.khepri_types.proofs.NumberSpelling.{joined, before_takes, space_again, at_again, spelled_number-takes, spelled_number-again}
+use Rattle.khepri_types.proofs.NumberSpelling.{joined, before_takes, space_again, at_again, three_takes, three_again, spelled_number-takes, spelled_number-again}
 use Rattle.khepri_types.proofs.ListSpelling.{SpellsReply, nodes_takes, nodes_again}
 use Rattle.khepri_types.proofs.Spelling.{spelled_payload-takes, spelled_payload-again, spelled_path-takes, spelled_path-again, spelled_command-takes, spelled_command-again, digit_is}
 
@@ -61,29 +61,23 @@ changed_again n k is-n is-k =
 node_takes : (text : List ℕ) (x : Reply) → node_at text ≡ Some x → SpellsReply (codes "node " ++ text) x
 unfolding node_at reply_text
 node_takes text x e =
-    let a = bind_some (number_before (codes " ") text) (λ pv. number_before (codes " ") pv.1 >>= λ cv. number_before (codes " ") cv.1 >>= λ kids. spelled_payload kids.1 >>= λ payload. Some (reply.Node pv.0 cv.0 kids.0 payload)) x e in
-    let b = bind_some (number_before (codes " ") a.0.1) (λ cv. number_before (codes " ") cv.1 >>= λ kids. spelled_payload kids.1 >>= λ payload. Some (reply.Node a.0.0 cv.0 kids.0 payload)) x a.2 in
-    let c = bind_some (number_before (codes " ") b.0.1) (λ kids. spelled_payload kids.1 >>= λ payload. Some (reply.Node a.0.0 b.0.0 kids.0 payload)) x b.2 in
-    let d = bind_some (spelled_payload c.0.1) (λ payload. Some (reply.Node a.0.0 b.0.0 c.0.0 payload)) x c.2 in
-    let pv = before_takes (codes " ") text a.0 a.1 in
-    let cv = before_takes (codes " ") a.0.1 b.0 b.1 in
-    let kids = before_takes (codes " ") b.0.1 c.0 c.1 in
-    let payload = spelled_payload-takes c.0.1 d.0 d.1 in
-    let last : b.0.1 ≡ decimal c.0.0 ++ 32 ∷ payload_text d.0 = kids.0 ∙ ap (λ (t : List ℕ). decimal c.0.0 ++ 32 ∷ t) payload.0 in
-    let more : a.0.1 ≡ decimal b.0.0 ++ 32 ∷ (decimal c.0.0 ++ 32 ∷ payload_text d.0) = cv.0 ∙ ap (λ (t : List ℕ). decimal b.0.0 ++ 32 ∷ t) last in
-    let whole : text ≡ decimal a.0.0 ++ 32 ∷ decimal b.0.0 ++ 32 ∷ decimal c.0.0 ++ 32 ∷ payload_text d.0 =
-    pv.0 ∙ (ap (λ (t : List ℕ). decimal a.0.0 ++ 32 ∷ t) more ∙ sym (joined (decimal a.0.0) (32 ∷ decimal b.0.0) (32 ∷ decimal c.0.0) (32 ∷ payload_text d.0))) in
-    subst (SpellsReply (codes "node " ++ text)) (some_is (reply.Node a.0.0 b.0.0 c.0.0 d.0) x d.2)
-    (ap (λ (t : List ℕ). codes "node " ++ t) whole, (pv.1, cv.1, kids.1, payload.1))
+    let a = bind_some (three_before text) (λ numbers. spelled_payload numbers.3 >>= λ payload. Some (reply.Node numbers.0 numbers.1 numbers.2 payload)) x e in
+    let d = bind_some (spelled_payload a.0.3) (λ payload. Some (reply.Node a.0.0 a.0.1 a.0.2 payload)) x a.2 in
+    let numbers = three_takes text a.0 a.1 in
+    let payload = spelled_payload-takes a.0.3 d.0 d.1 in
+    let whole : text ≡ decimal a.0.0 ++ 32 ∷ decimal a.0.1 ++ 32 ∷ decimal a.0.2 ++ 32 ∷ payload_text d.0 =
+    numbers.0
+    ∙ (ap (λ (t : List ℕ). decimal a.0.0 ++ 32 ∷ (decimal a.0.1 ++ 32 ∷ (decimal a.0.2 ++ 32 ∷ t))) payload.0
+    ∙ sym (joined (decimal a.0.0) (32 ∷ decimal a.0.1) (32 ∷ decimal a.0.2) (32 ∷ payload_text d.0))) in
+    subst (SpellsReply (codes "node " ++ text)) (some_is (reply.Node a.0.0 a.0.1 a.0.2 d.0) x d.2)
+    (ap (λ (t : List ℕ). codes "node " ++ t) whole, (numbers.1.0, numbers.1.1, numbers.1.2, payload.1))
 
 node_again : (pv cv kids : ℕ) (x : Payload) → IsNumber pv → IsNumber cv → IsNumber kids → IsPayload x → node_at (decimal pv ++ 32 ∷ decimal cv ++ 32 ∷ decimal kids ++ 32 ∷ payload_text x) ≡ Some (reply.Node pv cv kids x)
 unfolding node_at
 node_again pv cv kids x is-pv is-cv is-kids is-x =
-    ap (λ (t : List ℕ). number_before (codes " ") t >>= λ a. number_before (codes " ") a.1 >>= λ b. number_before (codes " ") b.1 >>= λ c. spelled_payload c.1 >>= λ d. Some (reply.Node a.0 b.0 c.0 d)) (joined (decimal pv) (32 ∷ decimal cv) (32 ∷ decimal kids) (32 ∷ payload_text x))
-    ∙ (ap (λ (o : Option (ℕ × List ℕ)). o >>= λ a. number_before (codes " ") a.1 >>= λ b. number_before (codes " ") b.1 >>= λ c. spelled_payload c.1 >>= λ d. Some (reply.Node a.0 b.0 c.0 d)) (space_again pv (decimal cv ++ 32 ∷ (decimal kids ++ 32 ∷ payload_text x)) is-pv)
-    ∙ (ap (λ (o : Option (ℕ × List ℕ)). o >>= λ b. number_before (codes " ") b.1 >>= λ c. spelled_payload c.1 >>= λ d. Some (reply.Node pv b.0 c.0 d)) (space_again cv (decimal kids ++ 32 ∷ payload_text x) is-cv)
-    ∙ (ap (λ (o : Option (ℕ × List ℕ)). o >>= λ c. spelled_payload c.1 >>= λ d. Some (reply.Node pv cv c.0 d)) (space_again kids (payload_text x) is-kids)
-    ∙ ap (λ (o : Option Payload). o >>= λ d. Some (reply.Node pv cv kids d)) (spelled_payload-again x is-x))))
+    ap node_at (joined (decimal pv) (32 ∷ decimal cv) (32 ∷ decimal kids) (32 ∷ payload_text x))
+    ∙ (ap (λ (o : Option (ℕ × ℕ × ℕ × List ℕ)). o >>= λ n. spelled_payload n.3 >>= λ d. Some (reply.Node n.0 n.1 n.2 d)) (three_again pv cv kids (payload_text x) is-pv is-cv is-kids)
+    ∙ ap (λ (o : Option Payload). o >>= λ d. Some (reply.Node pv cv kids d)) (spelled_payload-again x is-x))
 
 count_takes : (text : List ℕ) (x : Reply) → count_at text ≡ Some x → SpellsReply (codes "count " ++ text) x
 unfolding count_at reply_text

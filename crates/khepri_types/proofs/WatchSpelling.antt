@@ -15,14 +15,37 @@ use Rattle.khepri_types.specs.declared.limits.TheConstants.{MAX_WATCHES}
 use Rattle.khepri_types.specs.declared.watch.Watch.{Watch}
 use Rattle.khepri_types.specs.declared.watch.Watching.{Watching}
 use Rattle.khepri_types.specs.declared.watch.Watching.TheVariants.{Stay, Free, While}
-use Rattle.khepri_types.specs.ConditionTexts.{condition_text}
-use Rattle.khepri_types.specs.Reading.{watch_at, whole_watches, spelled_watching}
+use Rattle.khepri_types.specs.ConditionTexts.{condition_text, IsCondition}
+use Rattle.khepri_types.specs.Reading.{asked_at, watch_at, whole_watches, spelled_watching}
 use Rattle.khepri_types.specs.ReadingConditions.{after_byte, condition_at}
 use Rattle.khepri_types.specs.Spelled.{IsWatch, IsWatching}
 use Rattle.khepri_types.specs.Texts.{watch_text, watching_text}
 use Rattle.khepri_types.specs.Words.{is_word, after_word}
 use Rattle.khepri_types.proofs.PatternSpelling.{condition_takes, condition_again}
 use Rattle.khepri_types.proofs.Word.{if_read, after_word-takes, after_byte-takes}
+
+-- ---- a path and a condition
+
+-- the text begins with the spelling of this path and this condition
+abbrev pub SpellsAsked : List ℕ → List NameText × Condition × List ℕ → Type 0
+SpellsAsked text x = (text ≡ path_text x.0 ++ 32 ∷ (condition_text x.1 ++ x.2)) × (IsPath x.0 × IsCondition x.1)
+
+pub asked_takes : (text : List ℕ) (x : List NameText × Condition × List ℕ) → asked_at text ≡ Some x → SpellsAsked text x
+unfolding asked_at
+asked_takes text x e =
+    let p = bind_some (path_at text) (λ path. after_byte 32 path.1 >>= λ t. condition_at t >>= λ cond. Some (path.0, cond.0, cond.1)) x e in
+    let s = bind_some (after_byte 32 p.0.1) (λ t. condition_at t >>= λ cond. Some (p.0.0, cond.0, cond.1)) x p.2 in
+    let c = bind_some (condition_at s.0) (λ cond. Some (p.0.0, cond.0, cond.1)) x s.2 in
+    let path = path_takes text p.0 p.1 in
+    let found = condition_takes s.0 c.0 c.1 in
+    subst (SpellsAsked text) (some_is (p.0.0, c.0.0, c.0.1) x c.2)
+    (path.0 ∙ ap (λ (t : List ℕ). path_text p.0.0 ++ t) (after_byte-takes 32 p.0.1 s.0 s.1 ∙ ap (λ (t : List ℕ). 32 ∷ t) found.0), (path.1, found.1))
+
+pub asked_again : (p : List NameText) (v : Condition) (rest : List ℕ) → IsPath p → IsCondition v → asked_at (path_text p ++ 32 ∷ (condition_text v ++ rest)) ≡ Some (p, v, rest)
+unfolding asked_at is_plain after_byte
+asked_again p v rest is-path is-condition =
+    ap (λ (o : Option (List NameText × List ℕ)). o >>= λ path. after_byte 32 path.1 >>= λ t. condition_at t >>= λ cond. Some (path.0, cond.0, cond.1)) (path_again p (32 ∷ (condition_text v ++ rest)) is-path refl)
+    ∙ ap (λ (o : Option (Condition × List ℕ)). o >>= λ cond. Some (p, cond.0, cond.1)) (condition_again v rest is-condition)
 
 -- ---- one watch
 
@@ -34,44 +57,24 @@ watch_parts target c rest =
 pub watch_takes : (text : List ℕ) (x : Watch × List ℕ) → watch_at text ≡ Some x → (text ≡ watch_text x.0 ++ x.1) × IsWatch x.0
 unfolding watch_at watch_text
 watch_takes text x e =
-    let a = bind_some (after_word (codes " while ") text) (λ t. path_at t >>= λ target. after_byte 32 target.1 >>= λ c. condition_at c >>= λ found. Some (record { target = target.0; cond = found.0 }, found.1)) x e in
-    let b = bind_some (path_at a.0) (λ target. after_byte 32 target.1 >>= λ c. condition_at c >>= λ found. Some (record { target = target.0; cond = found.0 }, found.1)) x a.2 in
-    let c = bind_some (after_byte 32 b.0.1) (λ c. condition_at c >>= λ found. Some (record { target = b.0.0; cond = found.0 }, found.1)) x b.2 in
-    let d = bind_some (condition_at c.0) (λ found. Some (record { target = b.0.0; cond = found.0 }, found.1)) x c.2 in
-    let word : text ≡ codes " while " ++ a.0 = after_word-takes (codes " while ") text a.0 a.1 in
-    let path = path_takes a.0 b.0 b.1 in
-    let space : b.0.1 ≡ 32 ∷ c.0 = after_byte-takes 32 b.0.1 c.0 c.1 in
-    let found = condition_takes c.0 d.0 d.1 in
-    let whole : text ≡ codes " while " ++ (path_text b.0.0 ++ 32 ∷ (condition_text d.0.0 ++ d.0.1)) =
-    word ∙ ap (λ (t : List ℕ). codes " while " ++ t) (path.0 ∙ ap (λ (t : List ℕ). path_text b.0.0 ++ t) (space ∙ ap (λ (t : List ℕ). 32 ∷ t) found.0)) in
-    subst (λ (y : Watch × List ℕ). (text ≡ watch_text y.0 ++ y.1) × IsWatch y.0) (some_is (record { target = b.0.0; cond = d.0.0 }, d.0.1) x d.2)
-    (whole ∙ sym (watch_parts b.0.0 d.0.0 d.0.1), record { target = path.1; cond = found.1 })
+    let a = bind_some (after_word (codes " while ") text) (λ t. asked_at t >>= λ asked. Some (record { target = asked.0; cond = asked.1 }, asked.2)) x e in
+    let b = bind_some (asked_at a.0) (λ asked. Some (record { target = asked.0; cond = asked.1 }, asked.2)) x a.2 in
+    let t = asked_takes a.0 b.0 b.1 in
+    let whole : text ≡ codes " while " ++ (path_text b.0.0 ++ 32 ∷ (condition_text b.0.1 ++ b.0.2)) = after_word-takes (codes " while ") text a.0 a.1 ∙ ap (λ (r : List ℕ). codes " while " ++ r) t.0 in
+    subst (λ (y : Watch × List ℕ). (text ≡ watch_text y.0 ++ y.1) × IsWatch y.0) (some_is (record { target = b.0.0; cond = b.0.1 }, b.0.2) x b.2)
+    (whole ∙ sym (watch_parts b.0.0 b.0.1 b.0.2), record { target = t.1.0; cond = t.1.1 })
 
--- behind the word: the path, the space and the condition
-behind_word : (text : List ℕ) → watch_at (codes " while " ++ text) ≡ (path_at text >>= λ target. after_byte 32 target.1 >>= λ c. condition_at c >>= λ found. Some (record { target = target.0; cond = found.0 }, found.1))
+-- behind the word: the path and the condition
+behind_word : (text : List ℕ) → watch_at (codes " while " ++ text) ≡ (asked_at text >>= λ asked. Some (record { target = asked.0; cond = asked.1 }, asked.2))
 unfolding watch_at after_word
 behind_word text = refl
-
--- the watch of this target
-abbrev with_target : List NameText → Condition × List ℕ → Option (Watch × List ℕ)
-with_target target found = Some (record { target = target; cond = found.0 }, found.1)
-
-behind_path : (target : List NameText) (text : List ℕ) → (after_byte 32 (32 ∷ text) >>= λ c. condition_at c >>= with_target target) ≡ (condition_at text >>= with_target target)
-unfolding after_byte
-behind_path target text = refl
-
-path_ends : (text : List ℕ) (target : List NameText) → IsPath target → path_at (path_text target ++ 32 ∷ text) ≡ Some (target, 32 ∷ text)
-unfolding is_plain
-path_ends text target is = path_again target (32 ∷ text) is refl
 
 pub watch_again : (w : Watch) (rest : List ℕ) → IsWatch w → watch_at (watch_text w ++ rest) ≡ Some (w, rest)
 unfolding watch_text
 watch_again w rest is =
     ap watch_at (watch_parts w.target w.cond rest)
     ∙ (behind_word (path_text w.target ++ 32 ∷ (condition_text w.cond ++ rest))
-    ∙ (ap (λ (o : Option (List NameText × List ℕ)). o >>= λ target. after_byte 32 target.1 >>= λ c. condition_at c >>= λ found. Some (record { target = target.0; cond = found.0 }, found.1)) (path_ends (condition_text w.cond ++ rest) w.target is.target)
-    ∙ (behind_path w.target (condition_text w.cond ++ rest)
-    ∙ ap (λ (o : Option (Condition × List ℕ)). o >>= with_target w.target) (condition_again w.cond rest is.cond))))
+    ∙ ap (λ (o : Option (List NameText × Condition × List ℕ)). o >>= λ asked. Some (record { target = asked.0; cond = asked.1 }, asked.2)) (asked_again w.target w.cond rest is.target is.cond))
 
 -- ---- what is said of watches
 

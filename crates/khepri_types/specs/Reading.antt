@@ -12,6 +12,7 @@ use Rattle.khepri_types.specs.declared.command.Command.{Command}
 use Rattle.khepri_types.specs.declared.command.Command.TheVariants.{Put, Create, Update, Cas, Clear, Del, Delmany, Get, Many, Count}
 use Rattle.khepri_types.specs.declared.command.Line.{Line}
 use Rattle.khepri_types.specs.declared.command.Line.TheVariants as line
+use Rattle.khepri_types.specs.declared.condition.Condition.{Condition}
 use Rattle.khepri_types.specs.declared.limits.TheConstants.{MAX_WATCHES, MAX_SHOWN_NODES}
 use Rattle.khepri_types.specs.declared.pattern.PatternPart.{PatternPart}
 use Rattle.khepri_types.specs.declared.watch.Watch.{Watch}
@@ -50,14 +51,20 @@ fields_at (Some x) = Some (Fields x.0, x.1)
 unfoldable pub payload_at : List ℕ → Option (Payload × List ℕ)
 payload_at text = if begins (codes "-") text then Some (Empty, drop 1 text) else fields_at (rec_at text)
 
+-- `PATH COND` at the front, and what is after it
+unfoldable pub asked_at : List ℕ → Option (List NameText × Condition × List ℕ)
+asked_at text = do
+  path ← path_at text
+  cond_text ← after_byte 32 path.1
+  cond ← condition_at cond_text
+  Some (path.0, cond.0, cond.1)
+
 -- the watch that is spelled at the front, and what is after it
 unfoldable pub watch_at : List ℕ → Option (Watch × List ℕ)
 watch_at text = do
-  target_text ← after_word (codes " while ") text
-  target ← path_at target_text
-  cond_text ← after_byte 32 target.1
-  cond ← condition_at cond_text
-  Some (record { target = target.0; cond = cond.0 }, cond.1)
+  asked_text ← after_word (codes " while ") text
+  asked ← asked_at asked_text
+  Some (record { target = asked.0; cond = asked.1 }, asked.2)
 
 -- one or more watches that nothing follows
 abbrev pub whole_watches : List Watch × List ℕ → Option Watching
@@ -70,6 +77,14 @@ unfoldable pub spelled_watching : List ℕ → Option Watching
 spelled_watching [] = Some Stay
 spelled_watching (b ∷ text) = if is_word (codes " free") (b ∷ text) then Some Free else whole_watches (many watch_at MAX_WATCHES (b ∷ text))
 
+-- a payload and what is said of watches, behind a space
+unfoldable pub spelled_set : List ℕ → Option (Payload × Watching)
+spelled_set text = do
+  payload_text ← after_byte 32 text
+  payload ← payload_at payload_text
+  watch ← spelled_watching payload.1
+  Some (payload.0, watch)
+
 -- what a command sets: a payload at a path, and watches
 pub record Assigned : Type 0 where
   pub path : List NameText
@@ -80,10 +95,8 @@ pub record Assigned : Type 0 where
 unfoldable pub spelled_assigned : List ℕ → Option Assigned
 spelled_assigned text = do
   path ← path_at text
-  payload_text ← after_byte 32 path.1
-  payload ← payload_at payload_text
-  watch ← spelled_watching payload.1
-  Some (record { path = path.0; payload = payload.0; watch = watch })
+  set ← spelled_set path.1
+  Some (record { path = path.0; payload = set.0; watch = set.1 })
 
 -- a command of a path, a payload and watches
 abbrev pub assigning : (List NameText → Payload → Watching → Command) → Option Assigned → Option Command
@@ -98,13 +111,9 @@ naming command (Some p) = Some (command p)
 -- `PATH COND PAYLOAD` and what is said of watches, as a command
 unfoldable pub spelled_cas : List ℕ → Option Command
 spelled_cas text = do
-  path ← path_at text
-  cond_text ← after_byte 32 path.1
-  cond ← condition_at cond_text
-  payload_text ← after_byte 32 cond.1
-  payload ← payload_at payload_text
-  watch ← spelled_watching payload.1
-  Some (Cas path.0 cond.0 payload.0 watch)
+  asked ← asked_at text
+  set ← spelled_set asked.2
+  Some (Cas asked.0 asked.1 set.0 set.1)
 
 -- the pattern that the whole text spells
 abbrev pub whole_pattern : Option (List PatternPart × List ℕ) → Option (List PatternPart)
@@ -126,13 +135,28 @@ spelled_limit text = do
   limit ← whole_number (number_at MAX_SHOWN_NODES text)
   if nat_le 1 limit then Some limit else None
 
+-- how many nodes the whole text asks for, behind a space
+unfoldable pub limit_behind : List ℕ → Option ℕ
+limit_behind text = do
+  limit_text ← after_byte 32 text
+  spelled_limit limit_text
+
 -- `PATTERN C` as a command
 unfoldable pub spelled_many : List ℕ → Option Command
 spelled_many text = do
   pattern ← pattern_at text
-  limit_text ← after_byte 32 pattern.1
-  limit ← spelled_limit limit_text
+  limit ← limit_behind pattern.1
   Some (Many pattern.0 limit)
+
+-- the command that the whole text spells, one that deletes or asks
+unfoldable pub deleting_or_asking : List ℕ → Option Command
+deleting_or_asking text =
+    if begins (codes "del ") text then naming Del (spelled_path (drop 4 text))
+    else (if begins (codes "delmany ") text then scanning Delmany (spelled_pattern (drop 8 text))
+    else (if begins (codes "get ") text then naming Get (spelled_path (drop 4 text))
+    else (if begins (codes "many ") text then spelled_many (drop 5 text)
+    else (if begins (codes "count ") text then scanning Count (spelled_pattern (drop 6 text))
+    else None))))
 
 -- the command that the whole text spells
 unfoldable pub spelled_command : List ℕ → Option Command
@@ -142,12 +166,7 @@ spelled_command text =
     else (if begins (codes "update ") text then assigning Update (spelled_assigned (drop 7 text))
     else (if begins (codes "cas ") text then spelled_cas (drop 4 text)
     else (if begins (codes "clear ") text then naming Clear (spelled_path (drop 6 text))
-    else (if begins (codes "del ") text then naming Del (spelled_path (drop 4 text))
-    else (if begins (codes "delmany ") text then scanning Delmany (spelled_pattern (drop 8 text))
-    else (if begins (codes "get ") text then naming Get (spelled_path (drop 4 text))
-    else (if begins (codes "many ") text then spelled_many (drop 5 text)
-    else (if begins (codes "count ") text then scanning Count (spelled_pattern (drop 6 text))
-    else None)))))))))
+    else deleting_or_asking text))))
 
 -- a command to a node
 abbrev pub asked : ℕ → Option Command → Option Line

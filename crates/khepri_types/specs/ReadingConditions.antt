@@ -63,16 +63,26 @@ key_at text = do
   name ← comp_at text
   as_key name name.0.kind
 
+-- behind `field(KEY,OP,`
+unfoldable pub field_value : ℕ → NameText → Compare → List ℕ → Reading
+field_value left key op text = do
+  value ← scalar_at text
+  rest ← after_byte 41 value.1
+  Some (c.Field key op value.0, left, rest)
+
+-- behind `field(KEY,`
+unfoldable pub field_op : ℕ → NameText → List ℕ → Reading
+field_op left key text = do
+  op ← compare_at text
+  value ← after_byte 44 op.1
+  field_value left key op.0 value
+
 -- behind `field(`
 unfoldable pub field_asked : ℕ → List ℕ → Reading
 field_asked left text = do
   key ← key_at text
-  words ← after_byte 44 key.1
-  op ← compare_at words
-  digits ← after_byte 44 op.1
-  value ← scalar_at digits
-  rest ← after_byte 41 value.1
-  Some (c.Field key.0 op.0 value.0, left, rest)
+  op ← after_byte 44 key.1
+  field_op left key.0 op
 
 -- `OP,NUM)`
 unfoldable pub number_asked : List ℕ → Option (Compare × ℕ × List ℕ)
@@ -87,6 +97,37 @@ number_asked text = do
 abbrev pub comparing : (Compare → ℕ → Condition) → ℕ → Option (Compare × ℕ × List ℕ) → Reading
 comparing make left None = None
 comparing make left (Some x) = Some (make x.0 x.1, left, x.2)
+
+-- behind `pv(`, `cv(` and `kids(`
+abbrev pub pv_asked : ℕ → List ℕ → Reading
+pv_asked left text = comparing c.Pv left (number_asked text)
+
+abbrev pub cv_asked : ℕ → List ℕ → Reading
+cv_asked left text = comparing c.Cv left (number_asked text)
+
+abbrev pub kids_asked : ℕ → List ℕ → Reading
+kids_asked left text = comparing c.Kids left (number_asked text)
+
+-- one condition that asks of a node what stands in `(` and `)`
+unfoldable pub asking_at : ℕ → List ℕ → Reading
+asking_at left text =
+    if begins (codes "name(") text then name_asked left (drop 5 text)
+    else (if begins (codes "is(") text then is_asked left (drop 3 text)
+    else (if begins (codes "field(") text then field_asked left (drop 6 text)
+    else (if begins (codes "pv(") text then pv_asked left (drop 3 text)
+    else (if begins (codes "cv(") text then cv_asked left (drop 3 text)
+    else (if begins (codes "kids(") text then kids_asked left (drop 5 text)
+    else None)))))
+
+-- one condition that has none in it
+unfoldable pub atom_at : ℕ → List ℕ → Reading
+atom_at left text =
+    if begins (codes "absent") text then Some (c.Absent, left, drop 6 text)
+    else (if begins (codes "exists") text then Some (c.Exists, left, drop 6 text)
+    else (if begins (codes "payload") text then Some (c.Payload, left, drop 7 text)
+    else (if begins (codes "data") text then Some (c.Data, left, drop 4 text)
+    else (if begins (codes "sproc") text then Some (c.Sproc, left, drop 5 text)
+    else asking_at left text))))
 
 -- whether a list of conditions ends behind one, by `)`, or goes on, by `,`; and what is after that
 unfoldable pub list_end_at : List ℕ → Option (Bool × List ℕ)
@@ -125,24 +166,20 @@ module _ (inner : ℕ → List ℕ → Reading) where
   list_asked left [] = None
   list_asked left (b ∷ text) = if b == 41 then Some ([], left, text) else some_asked left left (b ∷ text)
 
-  -- one condition: its word, and what it asks
+  -- behind `all(` and `any(`
+  abbrev pub all_asked : ℕ → List ℕ → Reading
+  all_asked left text = uniting c.All (list_asked left text)
+
+  abbrev pub any_asked : ℕ → List ℕ → Reading
+  any_asked left text = uniting c.Any (list_asked left text)
+
+  -- one condition, of conditions or else an atom
   unfoldable pub layer_at : ℕ → List ℕ → Reading
   layer_at left text =
-      if begins (codes "absent") text then Some (c.Absent, left, drop 6 text)
-      else (if begins (codes "exists") text then Some (c.Exists, left, drop 6 text)
-      else (if begins (codes "payload") text then Some (c.Payload, left, drop 7 text)
-      else (if begins (codes "data") text then Some (c.Data, left, drop 4 text)
-      else (if begins (codes "sproc") text then Some (c.Sproc, left, drop 5 text)
-      else (if begins (codes "name(") text then name_asked left (drop 5 text)
-      else (if begins (codes "is(") text then is_asked left (drop 3 text)
-      else (if begins (codes "field(") text then field_asked left (drop 6 text)
-      else (if begins (codes "pv(") text then comparing c.Pv left (number_asked (drop 3 text))
-      else (if begins (codes "cv(") text then comparing c.Cv left (number_asked (drop 3 text))
-      else (if begins (codes "kids(") text then comparing c.Kids left (number_asked (drop 5 text))
-      else (if begins (codes "not(") text then not_asked left (drop 4 text)
-      else (if begins (codes "all(") text then uniting c.All (list_asked left (drop 4 text))
-      else (if begins (codes "any(") text then uniting c.Any (list_asked left (drop 4 text))
-      else None)))))))))))))
+      if begins (codes "not(") text then not_asked left (drop 4 text)
+      else (if begins (codes "all(") text then all_asked left (drop 4 text)
+      else (if begins (codes "any(") text then any_asked left (drop 4 text)
+      else atom_at left text))
 
 -- the condition at the front, of at most n nested in one another and as many as are left in all
 unfoldable pub nested_at : ℕ → ℕ → List ℕ → Reading

@@ -1,5 +1,5 @@
 -- Reading numbers that a word or nothing follows.
-use Rattle.std.specs.Prelude.{ℕ, List, [], ◌∷◌, Option, Some, None}
+use Rattle.std.specs.Prelude.{ℕ, List, [], ◌∷◌, Option, Some, None, codes}
 use Rattle.khepri_terms.specs.Many.{◌>>=◌}
 use Rattle.khepri_terms.specs.Numbers.{number_at}
 use Rattle.khepri_types.specs.declared.limits.TheConstants.{MAX_NUMBER}
@@ -11,6 +11,14 @@ number_before word text = do
   number ← number_at MAX_NUMBER text
   rest ← after_word word number.1
   Some (number.0, rest)
+
+-- the three numbers at the front that a space follows each, and what is after them
+unfoldable pub three_before : List ℕ → Option (ℕ × ℕ × ℕ × List ℕ)
+three_before text = do
+  pv ← number_before (codes " ") text
+  cv ← number_before (codes " ") pv.1
+  kids ← number_before (codes " ") cv.1
+  Some (pv.0, cv.0, kids.0, kids.1)
 
 -- a number that nothing follows
 abbrev pub whole_number : Option (ℕ × List ℕ) → Option ℕ

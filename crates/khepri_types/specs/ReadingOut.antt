@@ -1,6 +1,7 @@
 -- Reading output lines from left to right.
 use Rattle.std.specs.Prelude.{ℕ, ◌-◌, ◌&&◌, nat_le, ◌==◌, if◌then◌else◌, List, [], ◌∷◌, length, drop, Option, Some, None, codes}
 use Rattle.khepri_terms.specs.Many.{many, ◌>>=◌}
+use Rattle.khepri_terms.specs.Terms.{NameText}
 use Rattle.khepri_terms.specs.Numbers.{number_at}
 use Rattle.khepri_terms.specs.Paths.{path_at}
 use Rattle.khepri_types.specs.declared.limits.TheConstants.{MAX_NUMBER}
@@ -21,7 +22,7 @@ use Rattle.khepri_types.specs.Reading.{begins, is_word, spelled_payload, payload
 use Rattle.khepri_types.specs.ReadingConditions.{after_byte}
 unfoldable pub use Rattle.khepri_types.specs.Words.{after_word}
 pub use Rattle.khepri_types.specs.ReadingNumbers.{whole_number}
-unfoldable pub use Rattle.khepri_types.specs.ReadingNumbers.{number_before, spelled_number}
+unfoldable pub use Rattle.khepri_types.specs.ReadingNumbers.{number_before, three_before, spelled_number}
 
 -- `N K`
 unfoldable pub changed_at : List ℕ → Option Reply
@@ -33,23 +34,24 @@ changed_at text = do
 -- `PV CV KIDS PAYLOAD`
 unfoldable pub node_at : List ℕ → Option Reply
 node_at text = do
-  pv ← number_before (codes " ") text
-  cv ← number_before (codes " ") pv.1
-  kids ← number_before (codes " ") cv.1
-  payload ← spelled_payload kids.1
-  Some (reply.Node pv.0 cv.0 kids.0 payload)
+  numbers ← three_before text
+  payload ← spelled_payload numbers.3
+  Some (reply.Node numbers.0 numbers.1 numbers.2 payload)
+
+-- the numbers and the payload behind the path of a node, and what is after them
+unfoldable pub shown_content : List NameText → List ℕ → Option (ShownNode × List ℕ)
+shown_content path text = do
+  numbers ← three_before text
+  payload ← payload_at numbers.3
+  Some (record { path = path; pv = numbers.0; cv = numbers.1; kids = numbers.2; payload = payload.0 }, payload.1)
 
 -- ` PATH PV CV KIDS PAYLOAD` at the front, and what is after it
 unfoldable pub shown_at : List ℕ → Option (ShownNode × List ℕ)
 shown_at text = do
   place ← after_byte 32 text
   path ← path_at place
-  numbers ← after_byte 32 path.1
-  pv ← number_before (codes " ") numbers
-  cv ← number_before (codes " ") pv.1
-  kids ← number_before (codes " ") cv.1
-  payload ← payload_at kids.1
-  Some (record { path = path.0; pv = pv.0; cv = cv.0; kids = kids.0; payload = payload.0 }, payload.1)
+  content ← after_byte 32 path.1
+  shown_content path.0 content
 
 -- nodes that nothing follows
 abbrev pub whole_nodes : ℕ → List ShownNode × List ℕ → Option Reply

@@ -1,9 +1,6 @@
 pub mod Grammar
 pub mod Parts
-pub mod Only
 pub mod Stages
 pub mod Loops
 pub mod Layers
-pub mod Atoms
 pub mod Said
-pub mod Ends

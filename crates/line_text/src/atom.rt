@@ -5,8 +5,7 @@ ghost use Rattle.khepri_terms.specs.Records.{scalar_text, rec_text};
 ghost use Rattle.khepri_types.specs.Compares.{compare_text};
 ghost use Rattle.khepri_types.specs.ConditionTexts.{asked_text, number_text};
 ghost use Rattle.khepri_types.specs.Globs.{glob_text};
-ghost use Rattle.line_text.specs.Layers.{field_op, field_value, pv_asked, cv_asked, kids_asked, asking_at, atom_at};
-ghost use Rattle.khepri_types.specs.ReadingConditions.{after_byte, compare_at, key_at, name_asked, is_asked, field_asked, number_asked};
+ghost use Rattle.khepri_types.specs.ReadingConditions.{after_byte, compare_at, key_at, name_asked, is_asked, field_value, field_op, field_asked, number_asked, pv_asked, cv_asked, kids_asked, asking_at, atom_at};
 
 use crate::glob::{append_glob, read_glob};
 use crate::words::{append_number, append_word, strip};
@@ -220,7 +219,7 @@ fn read_field_asked(
 }
 
 // Behind `field(KEY,`.
-#[tactic(auto, unfolding(crate::specs::Layers::field_op))]
+#[tactic(auto, unfolding(khepri_types::specs::ReadingConditions::field_op))]
 fn read_field_op(
     alloc: Global,
     left: usize,
@@ -236,7 +235,7 @@ fn read_field_op(
 }
 
 // Behind `field(KEY,OP,`.
-#[tactic(auto, unfolding(crate::specs::Layers::field_value))]
+#[tactic(auto, unfolding(khepri_types::specs::ReadingConditions::field_value))]
 fn read_field_value(
     alloc: Global,
     left: usize,

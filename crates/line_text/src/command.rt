@@ -5,9 +5,8 @@ ghost use Rattle.khepri_terms.specs.Paths.{path_text};
 ghost use Rattle.khepri_types.specs.ConditionTexts.{condition_text};
 ghost use Rattle.khepri_types.specs.PatternTexts.{pattern_text};
 ghost use Rattle.khepri_types.specs.Texts.{payload_text, watching_text, assigned_text, command_text};
-ghost use Rattle.line_text.specs.Commands.{spelled_set, assigned, limit_behind, second_command};
 ghost use Rattle.line_text.specs.Grammar.{SpellsCommand, IsNoCommand};
-ghost use Rattle.khepri_types.specs.Reading.{spelled_path, spelled_assigned, spelled_cas, spelled_pattern, spelled_limit, spelled_many, spelled_command};
+ghost use Rattle.khepri_types.specs.Reading.{spelled_path, spelled_set, spelled_assigned, spelled_cas, spelled_pattern, spelled_limit, limit_behind, spelled_many, deleting_or_asking, spelled_command};
 
 use crate::atom::read_mark;
 use crate::pattern::{append_pattern, read_pattern};
@@ -15,6 +14,7 @@ use crate::payload::{append_payload, read_payload};
 use crate::watch::{append_asked, append_watching, read_asked, read_watching};
 use crate::words::{append_number, append_word, strip};
 use khepri_terms::numbers::read_number;
+use khepri_terms::texts::keep_whole;
 use khepri_terms::{Path, TextFault};
 use khepri_types::limits::MAX_SHOWN_NODES;
 use khepri_types::{Command, Condition, Pattern, Payload, Watching};
@@ -27,10 +27,7 @@ pub fn print_command(cmd: &Command, out: &mut Vec<u8>) -> Result<(), AllocError>
 {
     let len = out.len();
     let printed = append_command(cmd, out);
-    if printed.is_err() {
-        out.truncate(len);
-    }
-    printed
+    keep_whole(printed, len, out)
 }
 
 #[tactic(auto, unfolding(khepri_types::specs::Texts::command_text))]
@@ -166,7 +163,7 @@ fn read_whole_pattern(alloc: Global, text: &[u8]) -> Result<Pattern, TextFault>
 }
 
 // The payload and what is said of watches, behind a space, as the whole text spells them.
-#[tactic(auto, unfolding(crate::specs::Commands::spelled_set))]
+#[tactic(auto, unfolding(khepri_types::specs::Reading::spelled_set))]
 fn read_set(alloc: Global, text: &[u8]) -> Result<(Payload, Watching), TextFault>
     ensures value { IfOk result (λ x. spelled_set text.now ≡ Some (x.0, x.1)) }
     ensures bad { result ≡ Err TextFault.Bad → spelled_set text.now ≡ None }
@@ -178,9 +175,9 @@ fn read_set(alloc: Global, text: &[u8]) -> Result<(Payload, Watching), TextFault
 }
 
 // The path, the payload and the watches that the whole text spells.
-#[tactic(auto, unfolding(khepri_types::specs::Reading::spelled_assigned), using(crate::proofs::Ends::assigned_read, crate::proofs::Ends::assigned_unread))]
+#[tactic(auto, unfolding(khepri_types::specs::Reading::spelled_assigned))]
 fn read_assigned(alloc: Global, text: &[u8]) -> Result<(Path, Payload, Watching), TextFault>
-    ensures value { IfOk result (λ x. spelled_assigned text.now ≡ Some (assigned x.0 x.1 x.2)) }
+    ensures value { IfOk result (λ x. spelled_assigned text.now ≡ Some (record { path = x.0; payload = x.1; watch = x.2 })) }
     ensures bad { result ≡ Err TextFault.Bad → spelled_assigned text.now ≡ None }
 {
     let (path, rest) = Path::read(alloc, text)?;
@@ -189,7 +186,7 @@ fn read_assigned(alloc: Global, text: &[u8]) -> Result<(Path, Payload, Watching)
 }
 
 // Behind `cas `.
-#[tactic(auto, using(crate::proofs::Ends::cas_read, crate::proofs::Ends::cas_unasked, crate::proofs::Ends::cas_unset))]
+#[tactic(auto, unfolding(khepri_types::specs::Reading::spelled_cas))]
 fn read_cas(alloc: Global, text: &[u8]) -> Result<Command, TextFault>
     ensures value { IfOk result (λ x. spelled_cas text.now ≡ Some x) }
     ensures bad { result ≡ Err TextFault.Bad → spelled_cas text.now ≡ None }
@@ -225,7 +222,7 @@ fn read_limit(text: &[u8]) -> Result<u64, TextFault>
 }
 
 // How many nodes the whole text asks for, behind a space.
-#[tactic(auto, unfolding(crate::specs::Commands::limit_behind))]
+#[tactic(auto, unfolding(khepri_types::specs::Reading::limit_behind))]
 fn read_limit_behind(text: &[u8]) -> Result<u64, TextFault>
     ensures value { IfOk result (λ n. limit_behind text.now ≡ Some n) }
     ensures bad { result ≡ Err TextFault.Bad → limit_behind text.now ≡ None }
@@ -235,7 +232,7 @@ fn read_limit_behind(text: &[u8]) -> Result<u64, TextFault>
 }
 
 // Behind `many `.
-#[tactic(auto, unfolding(khepri_types::specs::Reading::spelled_many, crate::specs::Commands::limit_behind))]
+#[tactic(auto, unfolding(khepri_types::specs::Reading::spelled_many))]
 fn read_many(alloc: Global, text: &[u8]) -> Result<Command, TextFault>
     ensures value { IfOk result (λ x. spelled_many text.now ≡ Some x) }
     ensures bad { result ≡ Err TextFault.Bad → spelled_many text.now ≡ None }
@@ -292,13 +289,13 @@ pub(crate) fn match_command(alloc: Global, text: &[u8]) -> Result<Command, TextF
         let path = read_whole_path(alloc, rest)?;
         return Ok(Command::Clear { path });
     }
-    match_second(alloc, text)
+    match_deleting_or_asking(alloc, text)
 }
 
 // The commands that delete or ask, each word in turn.
-fn match_second(alloc: Global, text: &[u8]) -> Result<Command, TextFault>
-    ensures value { IfOk result (λ cmd. second_command text.now ≡ Some cmd) }
-    ensures bad { result ≡ Err TextFault.Bad → second_command text.now ≡ None }
+fn match_deleting_or_asking(alloc: Global, text: &[u8]) -> Result<Command, TextFault>
+    ensures value { IfOk result (λ cmd. deleting_or_asking text.now ≡ Some cmd) }
+    ensures bad { result ≡ Err TextFault.Bad → deleting_or_asking text.now ≡ None }
 {
     if let Some(rest) = strip(text, b"del ") {
         let path = read_whole_path(alloc, rest)?;

@@ -1,10 +1,8 @@
 // Conditions.
 ghost use Rattle.std.specs.Prelude.{◌≡◌, ◌++◌, ◌∷◌, [], ◌+◌, ◌≤◌, length, take, drop, map, codes, IfOk, OnOk, OnErr, Err, Some, None};
 ghost use Rattle.khepri_types.specs.ConditionTexts.{joined, asked_text, condition_text};
-ghost use Rattle.khepri_types.specs.ReadingConditions.{list_end_at, not_asked, some_asked, list_asked, layer_at, nested_at, condition_at};
+ghost use Rattle.khepri_types.specs.ReadingConditions.{list_end_at, not_asked, some_asked, list_asked, all_asked, any_asked, layer_at, nested_at, condition_at};
 ghost use Rattle.line_text.specs.Joining.{comma};
-ghost use Rattle.line_text.specs.Layers.{all_asked, any_asked};
-ghost use Rattle.line_text.specs.Conditions.{OnlyCondition, BeginsNoCondition};
 
 use crate::atom::{
     append_field_asked, append_is_asked, append_name_asked, append_number_asked, read_atom,
@@ -17,19 +15,7 @@ use khepri_types::limits::{MAX_CONDITION_NESTING, MAX_CONDITION_PARTS};
 use sqlite_items::{Boxed, Items};
 use std::alloc::{AllocError, Global};
 
-/// Appends the spelling of a condition; where memory is wanting, nothing.
-pub fn print_condition(cond: &Condition, out: &mut Vec<u8>) -> Result<(), AllocError>
-    ensures ok { OnOk result (out.new.items ≡ out.old.items ++ condition_text cond.now) }
-    ensures err { OnErr result (out.new.items ≡ out.old.items) }
-{
-    let len = out.len();
-    let printed = append_condition(cond, out);
-    if printed.is_err() {
-        out.truncate(len);
-    }
-    printed
-}
-
+/// Appends the spelling of a condition.
 #[cycle(printing)]
 #[tactic(auto, unfolding(khepri_types::specs::ConditionTexts::layer_text), using(khepri_terms::proofs::Printing::front_then))]
 pub(crate) fn append_condition(cond: &Condition, out: &mut Vec<u8>) -> Result<(), AllocError>
@@ -93,35 +79,6 @@ fn append_comma(i: usize, out: &mut Vec<u8>) -> Result<(), AllocError>
 }
 
 /// The condition that is spelled at the front, and what is after it.
-pub fn read_condition(alloc: Global, text: &[u8]) -> Result<(Condition, &[u8]), TextFault>
-    ensures value { IfOk result (λ x. condition_at text.now ≡ Some (x.0, x.1.now)) }
-    ensures bad { result ≡ Err TextFault.Bad → condition_at text.now ≡ None }
-    ensures only { IfOk result (λ x. OnlyCondition text.now x.0 x.1.now) }
-    ensures none { result ≡ Err TextFault.Bad → BeginsNoCondition text.now }
-{
-    match_condition(alloc, text)
-}
-
-/// The condition that is spelled at `at`, and where it ends.
-pub fn read_condition_at(
-    alloc: Global,
-    text: &[u8],
-    at: usize,
-) -> Result<(Condition, usize), TextFault>
-    requires { at ≤ length text.now }
-    ensures value { IfOk result (λ x. condition_at (drop at text.now) ≡ Some (x.0, drop x.1 text.now)) }
-    ensures end { IfOk result (λ x. x.1 ≡ at + length (condition_text x.0)) }
-    ensures within { IfOk result (λ x. x.1 ≤ length text.now) }
-    ensures bad { result ≡ Err TextFault.Bad → condition_at (drop at text.now) ≡ None }
-    ensures only { IfOk result (λ x. OnlyCondition (drop at text.now) x.0 (drop x.1 text.now)) }
-    ensures none { result ≡ Err TextFault.Bad → BeginsNoCondition (drop at text.now) }
-{
-    let (_, behind) = text.split_at(at);
-    let (cond, rest) = read_condition(alloc, behind)?;
-    Ok((cond, text.len() - rest.len()))
-}
-
-// As `read_condition`, for readers that go on behind it.
 #[tactic(auto, unfolding(khepri_types::specs::ReadingConditions::condition_at))]
 pub(crate) fn match_condition(alloc: Global, text: &[u8]) -> Result<(Condition, &[u8]), TextFault>
     ensures value { IfOk result (λ x. condition_at text.now ≡ Some (x.0, x.1.now)) }

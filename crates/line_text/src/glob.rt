@@ -5,6 +5,7 @@ ghost use Rattle.khepri_terms.specs.Many.{many};
 ghost use Rattle.khepri_types.specs.declared.limits.TheConstants.{MAX_GLOB_PIECES};
 ghost use Rattle.khepri_types.specs.Globs.{piece_text, glob_text, piece_at, globbed, glob_at};
 
+use crate::many::{Item, read_many};
 use crate::words::append_word;
 use khepri_terms::texts::{print_byte, read_byte};
 use khepri_terms::{Kind, TextFault};
@@ -65,22 +66,17 @@ fn read_piece(text: &[u8]) -> Option<(GlobPiece, &[u8])>
     }
 }
 
-// As many pieces as stand at the front, at most those of a glob, and what is after them.
-fn read_pieces(alloc: Global, text: &[u8]) -> Result<(Vec<GlobPiece>, &[u8]), AllocError>
-    ensures { IfOk result (λ x. many piece_at MAX_GLOB_PIECES text.now ≡ (x.0.items, x.1.now)) }
-{
-    let mut pieces = Vec::new(alloc);
-    let mut rest = text;
-    'pieces: while pieces.len() < MAX_GLOB_PIECES {
-        match read_piece(rest) {
-            Some((piece, after)) => {
-                pieces.push(piece)?;
-                rest = after;
-            }
-            None => break 'pieces,
+impl Item for GlobPiece {
+    ghost use Rattle.khepri_types.specs.Globs.{piece_at};
+
+    ghost item_at = { piece_at };
+
+    fn read_item(_alloc: Global, text: &[u8]) -> Result<(GlobPiece, &[u8]), TextFault> {
+        match read_piece(text) {
+            Some((piece, rest)) => Ok((piece, rest)),
+            None => Err(TextFault::Bad),
         }
     }
-    Ok((pieces, rest))
 }
 
 // The pieces at the front as a glob of this kind, and what is after them.
@@ -88,7 +84,7 @@ fn read_kind(alloc: Global, kind: Kind, text: &[u8]) -> Result<(Glob, &[u8]), Te
     ensures value { IfOk result (λ x. globbed kind (many piece_at MAX_GLOB_PIECES text.now) ≡ Some (x.0, x.1.now)) }
     ensures bad { result ≡ Err TextFault.Bad → globbed kind (many piece_at MAX_GLOB_PIECES text.now) ≡ None }
 {
-    let (pieces, rest) = read_pieces(alloc, text)?;
+    let (pieces, rest) = read_many::<GlobPiece>(alloc, text, MAX_GLOB_PIECES)?;
     if pieces.len() == 0 {
         return Err(TextFault::Bad);
     }

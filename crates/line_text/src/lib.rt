@@ -8,8 +8,8 @@ mod command;
 mod condition;
 mod entry;
 mod glob;
-pub mod laws;
 mod line;
+mod many;
 mod output;
 mod pattern;
 mod payload;
@@ -19,8 +19,6 @@ mod watch;
 mod words;
 
 pub use command::{print_command, read_command};
-pub use condition::{print_condition, read_condition, read_condition_at};
 pub use line::read_line;
 pub use output::{print_out, read_out};
-pub use pattern::{print_pattern, read_pattern, read_pattern_at};
 pub use reply::print_reply;

@@ -12,6 +12,7 @@ use crate::words::{
     strip,
 };
 use khepri_terms::TextFault;
+use khepri_terms::texts::keep_whole;
 use khepri_types::{EntryText, OutLine, Reason, Reply, Rows, StopWord};
 use std::alloc::{AllocError, Global};
 
@@ -22,10 +23,7 @@ pub fn print_out(line: &OutLine, out: &mut Vec<u8>) -> Result<(), AllocError>
 {
     let len = out.len();
     let printed = append_out(line, out);
-    if printed.is_err() {
-        out.truncate(len);
-    }
-    printed
+    keep_whole(printed, len, out)
 }
 
 #[tactic(auto, unfolding(khepri_types::specs::Texts::out_text))]

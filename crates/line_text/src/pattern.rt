@@ -2,13 +2,14 @@
 ghost use Rattle.std.specs.Prelude.{◌≡◌, ◌++◌, ◌∷◌, [], ◌+◌, ◌≤◌, length, take, drop, IfOk, OnOk, OnErr, Err, Some, None};
 ghost use Rattle.std.specs.List.{flat_map};
 ghost use Rattle.khepri_terms.specs.Many.{many};
+ghost use Rattle.khepri_types.specs.declared.limits.TheConstants.{MAX_PATTERN_PARTS};
 ghost use Rattle.khepri_types.specs.ConditionTexts.{condition_text};
 ghost use Rattle.khepri_types.specs.PatternTexts.{part_text, stage_text, pattern_text};
 ghost use Rattle.khepri_types.specs.ReadingConditions.{meets_at, part_at, stage_at, pattern_at};
-ghost use Rattle.line_text.specs.Conditions.{OnlyPattern, BeginsNoPattern};
 
 use crate::atom::read_mark;
 use crate::condition::{append_condition, match_condition};
+use crate::many::{Item, read_many};
 use crate::words::append_word;
 use khepri_terms::{Name, TextFault};
 use khepri_types::limits::{MAX_PATTERN_PARTS, MAX_PATTERN_TEXT};
@@ -16,19 +17,7 @@ use khepri_types::{Condition, Pattern, PatternPart};
 use sqlite_items::Items;
 use std::alloc::{AllocError, Global};
 
-/// Appends the spelling of a pattern; where memory is wanting, nothing.
-pub fn print_pattern(pattern: &Pattern, out: &mut Vec<u8>) -> Result<(), AllocError>
-    ensures ok { OnOk result (out.new.items ≡ out.old.items ++ pattern_text pattern.now) }
-    ensures err { OnErr result (out.new.items ≡ out.old.items) }
-{
-    let len = out.len();
-    let printed = append_pattern(pattern, out);
-    if printed.is_err() {
-        out.truncate(len);
-    }
-    printed
-}
-
+/// Appends the spelling of a pattern.
 pub(crate) fn append_pattern(pattern: &Pattern, out: &mut Vec<u8>) -> Result<(), AllocError>
     ensures ok { OnOk result (out.new.items ≡ out.old.items ++ pattern_text pattern.now) }
     ensures front { take (length out.old.items) out.new.items ≡ out.old.items }
@@ -91,29 +80,12 @@ fn append_meets(cond: &Condition, out: &mut Vec<u8>) -> Result<(), AllocError>
 }
 
 /// The pattern at the front, read as far as it goes, and what is after it.
-pub fn read_pattern(alloc: Global, text: &[u8]) -> Result<(Pattern, &[u8]), TextFault>
+pub(crate) fn read_pattern(alloc: Global, text: &[u8]) -> Result<(Pattern, &[u8]), TextFault>
     ensures value { IfOk result (λ x. pattern_at text.now ≡ Some (x.0, x.1.now)) }
     ensures bad { result ≡ Err TextFault.Bad → pattern_at text.now ≡ None }
-    ensures only { IfOk result (λ x. OnlyPattern text.now x.0 x.1.now) }
-    ensures none { result ≡ Err TextFault.Bad → BeginsNoPattern text.now }
 {
     let (parts, rest) = match_pattern(alloc, text)?;
     Ok((Pattern::new(parts), rest))
-}
-
-/// The pattern at `at`, read as far as it goes, and where it ends.
-pub fn read_pattern_at(alloc: Global, text: &[u8], at: usize) -> Result<(Pattern, usize), TextFault>
-    requires { at ≤ length text.now }
-    ensures value { IfOk result (λ x. pattern_at (drop at text.now) ≡ Some (x.0, drop x.1 text.now)) }
-    ensures end { IfOk result (λ x. x.1 ≡ at + length (pattern_text x.0)) }
-    ensures within { IfOk result (λ x. x.1 ≤ length text.now) }
-    ensures bad { result ≡ Err TextFault.Bad → pattern_at (drop at text.now) ≡ None }
-    ensures only { IfOk result (λ x. OnlyPattern (drop at text.now) x.0 (drop x.1 text.now)) }
-    ensures none { result ≡ Err TextFault.Bad → BeginsNoPattern (drop at text.now) }
-{
-    let (_, behind) = text.split_at(at);
-    let (pattern, rest) = read_pattern(alloc, behind)?;
-    Ok((pattern, text.len() - rest.len()))
 }
 
 // The parts of the pattern at the front, and what is after it.
@@ -135,33 +107,24 @@ fn match_pattern(alloc: Global, text: &[u8]) -> Result<(Items<PatternPart>, &[u8
 
 // As many parts as stand at the front, each behind a slash, and what is after them.
 fn read_stages(alloc: Global, text: &[u8]) -> Result<(Vec<PatternPart>, &[u8]), AllocError>
-    ensures value { IfOk result (λ x. many stage_at 32 text.now ≡ (x.0.items, x.1.now)) }
+    ensures value { IfOk result (λ x. many stage_at MAX_PATTERN_PARTS text.now ≡ (x.0.items, x.1.now)) }
     ensures within { IfOk result (λ x. length x.1.now ≤ length text.now) }
 {
-    let mut parts = Vec::new(alloc);
-    let mut rest = text;
-    'parts: while parts.len() < MAX_PATTERN_PARTS {
-        match read_stage(alloc, rest) {
-            Ok((part, after)) => {
-                parts.push(part)?;
-                rest = after;
-            }
-            Err(TextFault::Bad) => break 'parts,
-            Err(TextFault::NoMemory) => return Err(AllocError),
-        }
-    }
-    Ok((parts, rest))
+    read_many(alloc, text, MAX_PATTERN_PARTS)
 }
 
-// The slash and the part at the front, and what is after it.
-#[tactic(auto, unfolding(khepri_types::specs::ReadingConditions::stage_at))]
-fn read_stage(alloc: Global, text: &[u8]) -> Result<(PatternPart, &[u8]), TextFault>
-    ensures value { IfOk result (λ x. stage_at text.now ≡ Some (x.0, x.1.now)) }
-    ensures bad { result ≡ Err TextFault.Bad → stage_at text.now ≡ None }
-{
-    match text {
-        [b'/', rest @ ..] => read_part(alloc, rest),
-        _ => Err(TextFault::Bad),
+impl Item for PatternPart {
+    ghost use Rattle.khepri_types.specs.ReadingConditions.{stage_at};
+
+    ghost item_at = { stage_at };
+
+    // The slash and the part.
+    #[tactic(auto, unfolding(khepri_types::specs::ReadingConditions::stage_at))]
+    fn read_item(alloc: Global, text: &[u8]) -> Result<(PatternPart, &[u8]), TextFault> {
+        match text {
+            [b'/', rest @ ..] => read_part(alloc, rest),
+            _ => Err(TextFault::Bad),
+        }
     }
 }
 

@@ -13,6 +13,7 @@ use crate::words::{
     read_whole_number, strip,
 };
 use khepri_terms::TextFault;
+use khepri_terms::texts::keep_whole;
 use khepri_types::{Reply, ShownNodes};
 use std::alloc::{AllocError, Global};
 
@@ -23,10 +24,7 @@ pub fn print_reply(reply: &Reply, out: &mut Vec<u8>) -> Result<(), AllocError>
 {
     let len = out.len();
     let printed = append_reply(reply, out);
-    if printed.is_err() {
-        out.truncate(len);
-    }
-    printed
+    keep_whole(printed, len, out)
 }
 
 #[tactic(auto, unfolding(khepri_types::specs::Texts::reply_text))]
@@ -74,7 +72,7 @@ fn read_changed(text: &[u8]) -> Option<Reply>
 }
 
 // Behind `node `.
-#[tactic(auto, using(crate::proofs::Ends::node_read, crate::proofs::Ends::node_odd, crate::proofs::Ends::node_short))]
+#[tactic(auto, unfolding(khepri_types::specs::ReadingOut::node_at))]
 fn read_node(alloc: Global, text: &[u8]) -> Result<Reply, TextFault>
     ensures value { IfOk result (λ x. node_at text.now ≡ Some x) }
     ensures bad { result ≡ Err TextFault.Bad → node_at text.now ≡ None }

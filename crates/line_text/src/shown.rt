@@ -4,10 +4,10 @@ ghost use Rattle.std.specs.List.{flat_map};
 ghost use Rattle.std.specs.Fmt.{decimal};
 ghost use Rattle.khepri_terms.specs.Many.{many};
 ghost use Rattle.khepri_types.specs.Texts.{payload_text, shown_text};
-ghost use Rattle.khepri_types.specs.ReadingOut.{shown_at, nodes_at};
-ghost use Rattle.line_text.specs.Commands.{shown_content};
+ghost use Rattle.khepri_types.specs.ReadingOut.{shown_content, shown_at, nodes_at};
 
 use crate::atom::read_mark;
+use crate::many::{Item, read_many};
 use crate::payload::{append_payload, read_payload};
 use crate::words::{append_number, append_word, read_three};
 use khepri_terms::numbers::read_number;
@@ -80,7 +80,7 @@ pub(crate) fn read_nodes(alloc: Global, text: &[u8]) -> Result<Reply, TextFault>
     let Some((count, rest)) = read_number(text, MAX_NUMBER) else {
         return Err(TextFault::Bad);
     };
-    let (nodes, rest) = read_shown_nodes(alloc, rest)?;
+    let (nodes, rest) = read_many::<ShownNode>(alloc, rest, rest.len())?;
     match rest {
         [] => Ok(Reply::Nodes {
             count,
@@ -90,40 +90,22 @@ pub(crate) fn read_nodes(alloc: Global, text: &[u8]) -> Result<Reply, TextFault>
     }
 }
 
-// As many nodes as stand at the front, and what is after them.
-fn read_shown_nodes(alloc: Global, text: &[u8]) -> Result<(Vec<ShownNode>, &[u8]), AllocError>
-    ensures { IfOk result (λ x. many shown_at (length text.now) text.now ≡ (x.0.items, x.1.now)) }
-{
-    let most = text.len();
-    let mut nodes = Vec::new(alloc);
-    let mut rest = text;
-    'nodes: while nodes.len() < most {
-        match read_shown(alloc, rest) {
-            Ok((node, after)) => {
-                nodes.push(node)?;
-                rest = after;
-            }
-            Err(TextFault::Bad) => break 'nodes,
-            Err(TextFault::NoMemory) => return Err(AllocError),
-        }
-    }
-    Ok((nodes, rest))
-}
+impl Item for ShownNode {
+    ghost use Rattle.khepri_types.specs.ReadingOut.{shown_at};
 
-// The node at the front, and what is after it.
-#[tactic(auto, unfolding(khepri_types::specs::ReadingOut::shown_at))]
-fn read_shown(alloc: Global, text: &[u8]) -> Result<(ShownNode, &[u8]), TextFault>
-    ensures value { IfOk result (λ x. shown_at text.now ≡ Some (x.0, x.1.now)) }
-    ensures bad { result ≡ Err TextFault.Bad → shown_at text.now ≡ None }
-{
-    let rest = read_mark(text, b' ')?;
-    let (path, rest) = Path::read(alloc, rest)?;
-    let rest = read_mark(rest, b' ')?;
-    read_content(alloc, path, rest)
+    ghost item_at = { shown_at };
+
+    #[tactic(auto, unfolding(khepri_types::specs::ReadingOut::shown_at))]
+    fn read_item(alloc: Global, text: &[u8]) -> Result<(ShownNode, &[u8]), TextFault> {
+        let rest = read_mark(text, b' ')?;
+        let (path, rest) = Path::read(alloc, rest)?;
+        let rest = read_mark(rest, b' ')?;
+        read_content(alloc, path, rest)
+    }
 }
 
 // The numbers and the payload behind the path of a node, and what is after them.
-#[tactic(auto, unfolding(crate::specs::Commands::shown_content))]
+#[tactic(auto, unfolding(khepri_types::specs::ReadingOut::shown_content))]
 fn read_content(alloc: Global, path: Path, text: &[u8]) -> Result<(ShownNode, &[u8]), TextFault>
     ensures value { IfOk result (λ x. shown_content path text.now ≡ Some (x.0, x.1.now)) }
     ensures bad { result ≡ Err TextFault.Bad → shown_content path text.now ≡ None }

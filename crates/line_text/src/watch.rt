@@ -5,11 +5,12 @@ ghost use Rattle.khepri_terms.specs.Many.{many};
 ghost use Rattle.khepri_terms.specs.Paths.{path_text};
 ghost use Rattle.khepri_types.specs.ConditionTexts.{condition_text};
 ghost use Rattle.khepri_types.specs.Texts.{watch_text, watching_text};
-ghost use Rattle.khepri_types.specs.Reading.{watch_at, whole_watches, spelled_watching};
-ghost use Rattle.line_text.specs.Commands.{asked_at};
+ghost use Rattle.khepri_types.specs.declared.limits.TheConstants.{MAX_WATCHES};
+ghost use Rattle.khepri_types.specs.Reading.{asked_at, watch_at, whole_watches, spelled_watching};
 
 use crate::atom::read_mark;
 use crate::condition::{append_condition, match_condition};
+use crate::many::{Item, read_many};
 use crate::words::{after, append_word, is_word};
 use khepri_terms::{Path, TextFault};
 use khepri_types::limits::MAX_WATCHES;
@@ -83,10 +84,10 @@ pub(crate) fn read_watching(alloc: Global, text: &[u8]) -> Result<Watching, Text
 
 // The watches that the whole text spells, at least one.
 fn read_whole_watches(alloc: Global, text: &[u8]) -> Result<Watching, TextFault>
-    ensures value { IfOk result (λ x. whole_watches (many watch_at 16 text.now) ≡ Some x) }
-    ensures bad { result ≡ Err TextFault.Bad → whole_watches (many watch_at 16 text.now) ≡ None }
+    ensures value { IfOk result (λ x. whole_watches (many watch_at MAX_WATCHES text.now) ≡ Some x) }
+    ensures bad { result ≡ Err TextFault.Bad → whole_watches (many watch_at MAX_WATCHES text.now) ≡ None }
 {
-    let (watches, rest) = read_watches(alloc, text)?;
+    let (watches, rest) = read_many::<Watch>(alloc, text, MAX_WATCHES)?;
     if watches.len() == 0 {
         return Err(TextFault::Bad);
     }
@@ -96,27 +97,8 @@ fn read_whole_watches(alloc: Global, text: &[u8]) -> Result<Watching, TextFault>
     }
 }
 
-// As many watches as stand at the front, at most 16, and what is after them.
-fn read_watches(alloc: Global, text: &[u8]) -> Result<(Vec<Watch>, &[u8]), AllocError>
-    ensures { IfOk result (λ x. many watch_at 16 text.now ≡ (x.0.items, x.1.now)) }
-{
-    let mut watches = Vec::new(alloc);
-    let mut rest = text;
-    'watches: while watches.len() < MAX_WATCHES {
-        match read_watch(alloc, rest) {
-            Ok((watch, after)) => {
-                watches.push(watch)?;
-                rest = after;
-            }
-            Err(TextFault::Bad) => break 'watches,
-            Err(TextFault::NoMemory) => return Err(AllocError),
-        }
-    }
-    Ok((watches, rest))
-}
-
 /// The path and the condition at the front, and what is after them.
-#[tactic(auto, unfolding(crate::specs::Commands::asked_at))]
+#[tactic(auto, unfolding(khepri_types::specs::Reading::asked_at))]
 pub(crate) fn read_asked(alloc: Global, text: &[u8]) -> Result<(Path, Condition, &[u8]), TextFault>
     ensures value { IfOk result (λ x. asked_at text.now ≡ Some (x.0, x.1, x.2.now)) }
     ensures bad { result ≡ Err TextFault.Bad → asked_at text.now ≡ None }
@@ -127,15 +109,17 @@ pub(crate) fn read_asked(alloc: Global, text: &[u8]) -> Result<(Path, Condition,
     Ok((path, cond, rest))
 }
 
-// The watch at the front, and what is after it.
-#[tactic(auto, unfolding(khepri_types::specs::Reading::watch_at), using(crate::proofs::Ends::watch_read, crate::proofs::Ends::watch_unread))]
-fn read_watch(alloc: Global, text: &[u8]) -> Result<(Watch, &[u8]), TextFault>
-    ensures value { IfOk result (λ x. watch_at text.now ≡ Some (x.0, x.1.now)) }
-    ensures bad { result ≡ Err TextFault.Bad → watch_at text.now ≡ None }
-{
-    let Some(rest) = after(text, b" while ") else {
-        return Err(TextFault::Bad);
-    };
-    let (target, cond, rest) = read_asked(alloc, rest)?;
-    Ok((Watch { target, cond }, rest))
+impl Item for Watch {
+    ghost use Rattle.khepri_types.specs.Reading.{watch_at};
+
+    ghost item_at = { watch_at };
+
+    #[tactic(auto, unfolding(khepri_types::specs::Reading::watch_at))]
+    fn read_item(alloc: Global, text: &[u8]) -> Result<(Watch, &[u8]), TextFault> {
+        let Some(rest) = after(text, b" while ") else {
+            return Err(TextFault::Bad);
+        };
+        let (target, cond, rest) = read_asked(alloc, rest)?;
+        Ok((Watch { target, cond }, rest))
+    }
 }

@@ -2,8 +2,7 @@
 ghost use Rattle.std.specs.Prelude.{◌≡◌, ◌++◌, ◌≤◌, true, false, length, take, drop, OnOk, MatchOption, Some, None};
 ghost use Rattle.std.specs.Fmt.{decimal};
 ghost use Rattle.khepri_types.specs.Reading.{begins, is_word};
-ghost use Rattle.khepri_types.specs.ReadingOut.{after_word, number_before, spelled_number};
-ghost use Rattle.line_text.specs.Numbers.{three_before};
+ghost use Rattle.khepri_types.specs.ReadingOut.{after_word, number_before, three_before, spelled_number};
 
 use itoa::Buffer;
 use khepri_terms::numbers::read_number;
@@ -76,7 +75,7 @@ pub(crate) fn read_number_before<'a>(text: &'a [u8], word: &[u8]) -> Option<(u64
 }
 
 /// The three numbers at the front that a space follows each, and what is after them.
-#[tactic(auto, unfolding(crate::specs::Numbers::three_before))]
+#[tactic(auto, unfolding(khepri_types::specs::ReadingOut::three_before))]
 pub(crate) fn read_three(text: &[u8]) -> Option<(u64, u64, u64, &[u8])>
     ensures { MatchOption result (three_before text.now ≡ None) (λ x. three_before text.now ≡ Some (x.0, x.1, x.2, x.3.now)) }
 {

@@ -2,8 +2,7 @@ use Rattle.std.proofs.Common.{◌≡◌, ℕ, true, false, List, drop, sym, ap, 
 use Rattle.std.proofs.lemmas.Bool.{cond-true, cond-false}
 use Rattle.std.proofs.lemmas.Result.{IfOk-weaker}
 use Rattle.khepri_types.specs.Words.{begins}
-use Rattle.khepri_types.specs.ReadingConditions.{name_asked, is_asked, field_asked}
-use Rattle.line_text.specs.Layers.{pv_asked, cv_asked, kids_asked, asking_at}
+use Rattle.khepri_types.specs.ReadingConditions.{name_asked, is_asked, field_asked, pv_asked, cv_asked, kids_asked, asking_at}
 use Rattle.line_text.proofs.atom.read_asking.Goals as goal
 
 name_read : (left : ℕ) (text rest : List ℕ) → begins (codes "name(") text ≡ true → rest ≡ drop 5 text → asking_at left text ≡ name_asked left rest

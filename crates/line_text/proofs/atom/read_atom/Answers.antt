@@ -3,7 +3,7 @@ use Rattle.std.proofs.lemmas.Bool.{cond-true, cond-false}
 use Rattle.std.proofs.lemmas.Result.{IfOk-weaker}
 use Rattle.khepri_types.specs.Words.{begins}
 use Rattle.khepri_types.specs.declared.condition.Condition.TheVariants.{Absent, Exists, Payload, Data, Sproc}
-use Rattle.line_text.specs.Layers.{asking_at, atom_at}
+use Rattle.khepri_types.specs.ReadingConditions.{asking_at, atom_at}
 use Rattle.line_text.proofs.atom.read_atom.Goals as goal
 
 absent_read : (left : ℕ) (text rest : List ℕ) → begins (codes "absent") text ≡ true → rest ≡ drop 6 text → atom_at left text ≡ Some (Absent, left, rest)

@@ -6,8 +6,7 @@ use Rattle.khepri_terms.specs.declared.fault.TextFault.TheVariants.{Bad}
 use Rattle.khepri_terms.proofs.Cases.{err_is}
 use Rattle.khepri_types.specs.Words.{begins}
 use Rattle.khepri_types.specs.declared.command.Command.TheVariants.{Put, Create, Update, Clear}
-use Rattle.khepri_types.specs.Reading.{assigning, naming, spelled_assigned, spelled_cas, spelled_path, spelled_command}
-use Rattle.line_text.specs.Commands.{second_command}
+use Rattle.khepri_types.specs.Reading.{assigning, naming, spelled_assigned, spelled_cas, spelled_path, deleting_or_asking, spelled_command}
 use Rattle.line_text.proofs.command.match_command.Goals as goal
 
 put_read : (text rest : List ℕ) → begins (codes "put ") text ≡ true → rest ≡ drop 4 text → spelled_command text ≡ assigning Put (spelled_assigned rest)
@@ -30,8 +29,8 @@ clear_read : (text rest : List ℕ) → begins (codes "put ") text ≡ false →
 unfolding spelled_command
 clear_read text rest n0 n1 n2 n3 e is = cond-false _ _ _ n0 ∙ (cond-false _ _ _ n1 ∙ (cond-false _ _ _ n2 ∙ (cond-false _ _ _ n3 ∙ (cond-true _ _ _ e ∙ ap (λ (r : List ℕ). naming Clear (spelled_path r)) (sym is)))))
 
-second_read : (text : List ℕ) → begins (codes "put ") text ≡ false → begins (codes "create ") text ≡ false → begins (codes "update ") text ≡ false → begins (codes "cas ") text ≡ false → begins (codes "clear ") text ≡ false → spelled_command text ≡ second_command text
-unfolding spelled_command second_command
+second_read : (text : List ℕ) → begins (codes "put ") text ≡ false → begins (codes "create ") text ≡ false → begins (codes "update ") text ≡ false → begins (codes "cas ") text ≡ false → begins (codes "clear ") text ≡ false → spelled_command text ≡ deleting_or_asking text
+unfolding spelled_command
 second_read text n0 n1 n2 n3 n4 = cond-false _ _ _ n0 ∙ (cond-false _ _ _ n1 ∙ (cond-false _ _ _ n2 ∙ (cond-false _ _ _ n3 ∙ (cond-false _ _ _ n4))))
 
 pub returns-in-Some-clause-value : goal.returns-in-Some-clause-value
@@ -73,7 +72,7 @@ returns-in_err-path-4-clause-bad c =
     rw (p.1, p.2) (λ h. clear_read c.args.text.now c.in-Some-strip-4.rest.now c.in_default.ensures c.in_default-strip.ensures c.in_default-strip-2.ensures c.in_default-strip-3.ensures c.in-Some-strip-4.ensures.0 c.in-Some-strip-4.ensures.1 ∙ ap (naming Clear) (c.in_err-path-4.ensures.bad (ap (λ (d : TextFault). Err d) (err_is c.in_err-path-4.field-0.0 Bad h))))
 
 pub returns-clause-value : goal.returns-clause-value
-returns-clause-value c = IfOk-weaker c.match_second.result _ _ (λ x e. second_read c.args.text.now c.in_default.ensures c.in_default-strip.ensures c.in_default-strip-2.ensures c.in_default-strip-3.ensures c.in_default-strip-4.ensures ∙ e) c.match_second.ensures.value
+returns-clause-value c = IfOk-weaker c.match_deleting_or_asking.result _ _ (λ x e. second_read c.args.text.now c.in_default.ensures c.in_default-strip.ensures c.in_default-strip-2.ensures c.in_default-strip-3.ensures c.in_default-strip-4.ensures ∙ e) c.match_deleting_or_asking.ensures.value
 
 pub returns-clause-bad : goal.returns-clause-bad
-returns-clause-bad c = λ e. second_read c.args.text.now c.in_default.ensures c.in_default-strip.ensures c.in_default-strip-2.ensures c.in_default-strip-3.ensures c.in_default-strip-4.ensures ∙ c.match_second.ensures.bad e
+returns-clause-bad c = λ e. second_read c.args.text.now c.in_default.ensures c.in_default-strip.ensures c.in_default-strip-2.ensures c.in_default-strip-3.ensures c.in_default-strip-4.ensures ∙ c.match_deleting_or_asking.ensures.bad e

@@ -6,8 +6,7 @@ use Rattle.std.proofs.lemmas.List.{length-append}
 use Rattle.std.proofs.lemmas.Result.{IfOk-weaker, err_from_is_err_and}
 use Rattle.khepri_types.specs.ReadingConditions.{nested_at, some_asked}
 use Rattle.line_text.proofs.Parts.{nested_none, left_none, nested_step, parts_past, parts_none, parts_odd, parts_last, parts_on, parts_fail}
-use Rattle.line_text.proofs.Layers.{layer_not, layer_all, layer_any}
-use Rattle.line_text.proofs.Atoms.{layer_atom}
+use Rattle.line_text.proofs.Layers.{layer_not, layer_all, layer_any, layer_atom}
 use Rattle.line_text.proofs.condition.+reading.Goals as goal
 
 pub read_layer-returns-in-Some-clause-value : goal.read_layer-returns-in-Some-clause-value

@@ -6,32 +6,31 @@ use Rattle.khepri_terms.specs.declared.fault.TextFault.TheVariants.{Bad}
 use Rattle.khepri_terms.proofs.Cases.{err_is}
 use Rattle.khepri_types.specs.Words.{begins}
 use Rattle.khepri_types.specs.declared.command.Command.TheVariants.{Del, Delmany, Get, Count}
-use Rattle.khepri_types.specs.Reading.{naming, scanning, spelled_path, spelled_pattern, spelled_many}
-use Rattle.line_text.specs.Commands.{second_command}
-use Rattle.line_text.proofs.command.match_second.Goals as goal
+use Rattle.khepri_types.specs.Reading.{naming, scanning, spelled_path, spelled_pattern, spelled_many, deleting_or_asking}
+use Rattle.line_text.proofs.command.match_deleting_or_asking.Goals as goal
 
-del_read : (text rest : List ℕ) → begins (codes "del ") text ≡ true → rest ≡ drop 4 text → second_command text ≡ naming Del (spelled_path rest)
-unfolding second_command
+del_read : (text rest : List ℕ) → begins (codes "del ") text ≡ true → rest ≡ drop 4 text → deleting_or_asking text ≡ naming Del (spelled_path rest)
+unfolding deleting_or_asking
 del_read text rest e is = cond-true _ _ _ e ∙ ap (λ (r : List ℕ). naming Del (spelled_path r)) (sym is)
 
-delmany_read : (text rest : List ℕ) → begins (codes "del ") text ≡ false → begins (codes "delmany ") text ≡ true → rest ≡ drop 8 text → second_command text ≡ scanning Delmany (spelled_pattern rest)
-unfolding second_command
+delmany_read : (text rest : List ℕ) → begins (codes "del ") text ≡ false → begins (codes "delmany ") text ≡ true → rest ≡ drop 8 text → deleting_or_asking text ≡ scanning Delmany (spelled_pattern rest)
+unfolding deleting_or_asking
 delmany_read text rest n0 e is = cond-false _ _ _ n0 ∙ (cond-true _ _ _ e ∙ ap (λ (r : List ℕ). scanning Delmany (spelled_pattern r)) (sym is))
 
-get_read : (text rest : List ℕ) → begins (codes "del ") text ≡ false → begins (codes "delmany ") text ≡ false → begins (codes "get ") text ≡ true → rest ≡ drop 4 text → second_command text ≡ naming Get (spelled_path rest)
-unfolding second_command
+get_read : (text rest : List ℕ) → begins (codes "del ") text ≡ false → begins (codes "delmany ") text ≡ false → begins (codes "get ") text ≡ true → rest ≡ drop 4 text → deleting_or_asking text ≡ naming Get (spelled_path rest)
+unfolding deleting_or_asking
 get_read text rest n0 n1 e is = cond-false _ _ _ n0 ∙ (cond-false _ _ _ n1 ∙ (cond-true _ _ _ e ∙ ap (λ (r : List ℕ). naming Get (spelled_path r)) (sym is)))
 
-many_read : (text rest : List ℕ) → begins (codes "del ") text ≡ false → begins (codes "delmany ") text ≡ false → begins (codes "get ") text ≡ false → begins (codes "many ") text ≡ true → rest ≡ drop 5 text → second_command text ≡ spelled_many rest
-unfolding second_command
+many_read : (text rest : List ℕ) → begins (codes "del ") text ≡ false → begins (codes "delmany ") text ≡ false → begins (codes "get ") text ≡ false → begins (codes "many ") text ≡ true → rest ≡ drop 5 text → deleting_or_asking text ≡ spelled_many rest
+unfolding deleting_or_asking
 many_read text rest n0 n1 n2 e is = cond-false _ _ _ n0 ∙ (cond-false _ _ _ n1 ∙ (cond-false _ _ _ n2 ∙ (cond-true _ _ _ e ∙ ap (λ (r : List ℕ). spelled_many r) (sym is))))
 
-count_read : (text rest : List ℕ) → begins (codes "del ") text ≡ false → begins (codes "delmany ") text ≡ false → begins (codes "get ") text ≡ false → begins (codes "many ") text ≡ false → begins (codes "count ") text ≡ true → rest ≡ drop 6 text → second_command text ≡ scanning Count (spelled_pattern rest)
-unfolding second_command
+count_read : (text rest : List ℕ) → begins (codes "del ") text ≡ false → begins (codes "delmany ") text ≡ false → begins (codes "get ") text ≡ false → begins (codes "many ") text ≡ false → begins (codes "count ") text ≡ true → rest ≡ drop 6 text → deleting_or_asking text ≡ scanning Count (spelled_pattern rest)
+unfolding deleting_or_asking
 count_read text rest n0 n1 n2 n3 e is = cond-false _ _ _ n0 ∙ (cond-false _ _ _ n1 ∙ (cond-false _ _ _ n2 ∙ (cond-false _ _ _ n3 ∙ (cond-true _ _ _ e ∙ ap (λ (r : List ℕ). scanning Count (spelled_pattern r)) (sym is)))))
 
-none_read : (text : List ℕ) → begins (codes "del ") text ≡ false → begins (codes "delmany ") text ≡ false → begins (codes "get ") text ≡ false → begins (codes "many ") text ≡ false → begins (codes "count ") text ≡ false → second_command text ≡ None
-unfolding second_command
+none_read : (text : List ℕ) → begins (codes "del ") text ≡ false → begins (codes "delmany ") text ≡ false → begins (codes "get ") text ≡ false → begins (codes "many ") text ≡ false → begins (codes "count ") text ≡ false → deleting_or_asking text ≡ None
+unfolding deleting_or_asking
 none_read text n0 n1 n2 n3 n4 = cond-false _ _ _ n0 ∙ (cond-false _ _ _ n1 ∙ (cond-false _ _ _ n2 ∙ (cond-false _ _ _ n3 ∙ (cond-false _ _ _ n4))))
 
 pub returns-in-Some-clause-value : goal.returns-in-Some-clause-value
