@@ -42,3 +42,4 @@ pub mod Layers
 pub mod LayersAgain
 pub mod PatternSpelling
 mod Commas
+pub mod PlaceOrder

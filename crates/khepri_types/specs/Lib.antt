@@ -28,3 +28,6 @@ pub mod ReadingNumbers
 pub mod Settling
 pub mod Watching
 pub mod Lasting
+pub mod Keys
+pub mod Tables
+pub mod Projecting
