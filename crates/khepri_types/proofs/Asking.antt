@@ -41,14 +41,14 @@ pub close_again : (rest : List ℕ) → after_byte 41 (41 ∷ rest) ≡ Some res
 unfolding after_byte
 close_again rest = refl
 
-comma_again : (rest : List ℕ) → after_byte 44 (44 ∷ rest) ≡ Some rest
+pub comma_again : (rest : List ℕ) → after_byte 44 (44 ∷ rest) ≡ Some rest
 unfolding after_byte
 comma_again rest = refl
 
 compared : (text : List ℕ) (x : Compare × List ℕ) (op : Compare) → begins (compare_text op) text ≡ true → Some (op, drop (length (compare_text op)) text) ≡ Some x → text ≡ compare_text x.0 ++ x.1
 compared text x op is e = subst (λ (y : Compare × List ℕ). text ≡ compare_text y.0 ++ y.1) (some_is (op, drop (length (compare_text op)) text) x e) (word_takes (compare_text op) text is)
 
-compare_takes : (text : List ℕ) (x : Compare × List ℕ) → compare_at text ≡ Some x → text ≡ compare_text x.0 ++ x.1
+pub compare_takes : (text : List ℕ) (x : Compare × List ℕ) → compare_at text ≡ Some x → text ≡ compare_text x.0 ++ x.1
 unfolding compare_at compare_text
 compare_takes text x e =
     if_read (begins (codes "eq") text) _ _ x e (compared text x Eq) (λ e1.
@@ -58,7 +58,7 @@ compare_takes text x e =
     if_read (begins (codes "gt") text) _ _ x e4 (compared text x Gt) (λ e5.
     if_read (begins (codes "ge") text) _ _ x e5 (compared text x Ge) (λ e6. absurd cc))))))
 
-compare_again : (op : Compare) (rest : List ℕ) → compare_at (compare_text op ++ rest) ≡ Some (op, rest)
+pub compare_again : (op : Compare) (rest : List ℕ) → compare_at (compare_text op ++ rest) ≡ Some (op, rest)
 unfolding compare_at compare_text
 compare_again Eq rest = refl
 compare_again Ne rest = refl
@@ -73,7 +73,7 @@ as_key_is : (y x : NameText × List ℕ) (kind : Kind) → as_key y kind ≡ Som
 as_key_is y x Atom e = absurd cc
 as_key_is y x Text e = (refl, some_is y x e)
 
-key_takes : (text : List ℕ) (x : NameText × List ℕ) → key_at text ≡ Some x → (text ≡ comp_text x.0 ++ x.1) × IsKey x.0
+pub key_takes : (text : List ℕ) (x : NameText × List ℕ) → key_at text ≡ Some x → (text ≡ comp_text x.0 ++ x.1) × IsKey x.0
 unfolding key_at
 key_takes text x e =
     let a = bind_some (comp_at text) (λ name. as_key name name.0.kind) x e in
@@ -81,7 +81,7 @@ key_takes text x e =
     let t = comp_takes text a.0 a.1 in
     subst (λ (y : NameText × List ℕ). (text ≡ comp_text y.0 ++ y.1) × IsKey y.0) k.1 (t.0, (k.0, t.1))
 
-key_again : (n : NameText) (rest : List ℕ) → IsKey n → key_at (comp_text n ++ 44 ∷ rest) ≡ Some (n, 44 ∷ rest)
+pub key_again : (n : NameText) (rest : List ℕ) → IsKey n → key_at (comp_text n ++ 44 ∷ rest) ≡ Some (n, 44 ∷ rest)
 unfolding key_at is_plain
 key_again n rest is =
     ap (λ (o : Option (NameText × List ℕ)). o >>= λ name. as_key name name.0.kind) (comp_again n (44 ∷ rest) is.1 refl)

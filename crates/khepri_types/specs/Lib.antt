@@ -31,3 +31,14 @@ pub mod Lasting
 pub mod Keys
 pub mod Tables
 pub mod Projecting
+pub mod Scenes
+pub mod Registers
+pub mod Values
+pub mod Expressions
+pub mod Statements
+pub mod Typing
+pub mod ScriptTexts
+pub mod Items
+pub mod ScriptWords
+pub mod ReadingScripts
+pub mod ValueTypes

@@ -38,3 +38,27 @@ pub const MAX_PATTERN_TEXT: usize = 1_024;
 
 /// Nodes that a command may ask to be shown.
 pub const MAX_SHOWN_NODES: u64 = 256;
+
+/// Bytes of the spelling of a script.
+pub const MAX_SCRIPT_TEXT: usize = 8_192;
+
+/// Statements and expressions of a script.
+pub const MAX_SCRIPT_PARTS: usize = 256;
+
+/// How deep blocks may stand in one another; the script's own block is the first.
+pub const MAX_BLOCK_NESTING: usize = 8;
+
+/// How deep expressions may stand in one another; one with none in it has nesting 1.
+pub const MAX_EXPRESSION_NESTING: usize = 8;
+
+/// Registers of each type.
+pub const MAX_REGISTERS: u8 = 8;
+
+/// Units that a script may spend: one for each statement, and one for each turn of `each`.
+pub const MAX_UNITS: u64 = 10_000;
+
+/// Values that a script may emit.
+pub const MAX_EMITTED: usize = 64;
+
+/// Bytes of a text that `cat` makes.
+pub const MAX_CAT_TEXT: usize = 4_096;
