@@ -1,8 +1,9 @@
 -- What is written, call by call.
-use Rattle.std.proofs.Common.{◌≡◌, ℕ, ◌+◌, ◌≤◌, List, [], ◌++◌, length, take, drop, refl, sym, ap, subst, ◌∙◌, append_assoc, arith, inl, inr, Option, Some, None}
+use Rattle.std.proofs.Common.{◌≡◌, ℕ, ◌+◌, ◌≤◌, List, [], ◌++◌, length, take, drop, refl, sym, ap, subst, ◌∙◌, append_assoc, arith, Option, Some, None}
 use Rattle.std.proofs.lemmas.List.{append-nil, length-append, take_all, take-append-le}
 use Rattle.std.proofs.Math.Seq.{take-append-add, take-add}
-use Rattle.line_io.specs.Streams.{Appends, AppendsFront, AppendsPart, Puts, Rose}
+use Rattle.line_io.specs.Streams.{Appends, AppendsFront, AppendsPart, Puts}
+pub use Rattle.fault_count.proofs.Rising.{Rose-wider}
 
 -- one call more puts more of the bytes
 pub Appends-more : (old mid new : Option (List ℕ)) (bytes part : List ℕ) (at n : ℕ) → Appends old mid (take at bytes) → part ≡ drop at bytes → Puts mid new part n
@@ -47,8 +48,3 @@ Part-of old new a b h = (h.0, omega (arith, h.1, length-append a b), subst (λ (
 pub Part-then : (old mid new : Option (List ℕ)) (a b : List ℕ) → Appends old mid a → AppendsPart mid new b → AppendsPart old new (a ++ b)
 Part-then old mid new a b p h =
     (length a + h.0, omega (arith, h.1, length-append a b), subst (λ (x : List ℕ). Appends old new x) (sym (take-append-add a b h.0)) (Appends-then old mid new a (take h.0 b) p h.2))
-
--- a count that rose since a moment rose since each earlier one, and has risen ever after
-pub Rose-wider : (first before now later : ℕ) → first ≤ before → Rose before now → now ≤ later → Rose first later
-Rose-wider first before now later earlier (inl lt) after = inl (omega arith)
-Rose-wider first before now later earlier (inr le) after = inr (omega arith)

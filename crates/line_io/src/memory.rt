@@ -3,6 +3,7 @@ ghost use Rattle.line_io.specs.Memory.{Supply, Store, counted, is_listed};
 ghost use Rattle.line_io.specs.Streams.{Rose, Takes, Puts};
 
 use crate::streams::{Failed, Sink, Source};
+use fault_count::{is_to_fail, one_more};
 use std::marker::Model;
 
 /// Bytes in memory, as a source. Of its calls just those fail whose numbers were listed.
@@ -58,9 +59,9 @@ impl Source for MemSource {
         ensures ok { IfOk result (λ n. (n ≡ min (length self.old.left) (length out.old)) × (self.new ≡ record self.old { left = drop n self.old.left; calls = counted self.old.calls })) }
         ensures err { OnErr result (self.new ≡ record self.old { calls = counted self.old.calls; faults = counted self.old.faults }) }
     {
-        self.calls = self.calls.saturating_add(1);
-        if has_number(self.fails.as_slice(), self.calls) {
-            self.faults = self.faults.saturating_add(1);
+        self.calls = one_more(self.calls);
+        if is_to_fail(self.fails.as_slice(), self.calls) {
+            self.faults = one_more(self.faults);
             return Err(Failed);
         }
         let n = copy_front(out, &self.bytes.as_slice()[self.at..]);
@@ -124,23 +125,17 @@ impl Sink for MemSink {
         ensures ok { IfOk result (λ n. (n ≡ length bytes.now) × (self.new ≡ record self.old { bytes = self.old.bytes ++ bytes.now; calls = counted self.old.calls })) }
         ensures err { OnErr result (self.new ≡ record self.old { calls = counted self.old.calls; faults = counted self.old.faults }) }
     {
-        self.calls = self.calls.saturating_add(1);
-        if has_number(self.fails.as_slice(), self.calls) {
-            self.faults = self.faults.saturating_add(1);
+        self.calls = one_more(self.calls);
+        if is_to_fail(self.fails.as_slice(), self.calls) {
+            self.faults = one_more(self.faults);
             return Err(Failed);
         }
         if self.bytes.extend_from_slice(bytes).is_err() {
-            self.faults = self.faults.saturating_add(1);
+            self.faults = one_more(self.faults);
             return Err(Failed);
         }
         Ok(bytes.len())
     }
-}
-
-fn has_number(fails: &[u64], call: u64) -> bool
-    ensures { result ≡ is_listed fails.now call }
-{
-    fails.contains(&call)
 }
 
 // As many bytes as `out` has room for.
