@@ -17,4 +17,8 @@ mod logs;
 #[cfg(test)]
 mod nodes;
 #[cfg(test)]
+mod stores;
+#[cfg(test)]
 mod terms;
+#[cfg(test)]
+mod vaults;

@@ -1,0 +1,4 @@
+pub mod EightBytes
+pub mod Pushing
+pub mod Spelling
+pub mod Steps
