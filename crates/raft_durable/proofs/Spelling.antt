@@ -12,14 +12,14 @@ use Rattle.raft_durable.specs.Laws.{Fits, AllFit, Spells, took_items}
 use Rattle.raft_durable.proofs.EightBytes.{again}
 
 -- a second number behind the first
-abbrev second : ℕ → Option (ℕ × List ℕ) → Option (ℕ × ℕ × List ℕ)
+abbrev pub second : ℕ → Option (ℕ × List ℕ) → Option (ℕ × ℕ × List ℕ)
 second n o = option_map (λ b. (n, b.0, b.1)) o
 
-abbrev both : Option (ℕ × List ℕ) → Option (ℕ × ℕ × List ℕ)
+abbrev pub both : Option (ℕ × List ℕ) → Option (ℕ × ℕ × List ℕ)
 both o = option_and_then (λ a. second a.0 (number_at a.1)) o
 
 -- a vote behind the term
-abbrev with_vote : Option (ℕ × List ℕ) → Option (ℕ × ℕ)
+abbrev pub with_vote : Option (ℕ × List ℕ) → Option (ℕ × ℕ)
 with_vote o = option_and_then (λ a. option_map (λ vote. (a.0, vote)) (vote_at a.1)) o
 
 numbers_again : (i t : ℕ) (rest : List ℕ) → i < 2 ^ 64 → t < 2 ^ 64 → numbers_at (big_bytes 8 i ++ (big_bytes 8 t ++ rest)) ≡ Some (i, t, rest)
@@ -28,13 +28,13 @@ numbers_again i t rest fi ft = ap both (again i (big_bytes 8 t ++ rest) fi) ∙ 
 vote_again : (t v : ℕ) → t < 2 ^ 64 → term_vote_at (big_bytes 8 t ++ v ∷ []) ≡ Some (t, v)
 vote_again t v ft = ap with_vote (again t (v ∷ []) ft)
 
-abbrev snap_of : Reading → Option (ℕ × ℕ × List ℕ) → Option Reading
+abbrev pub snap_of : Reading → Option (ℕ × ℕ × List ℕ) → Option Reading
 snap_of r o = option_and_then (λ n. took n.2 r (Snap n.0 n.1)) o
 
-abbrev vote_of : Reading → Option (ℕ × ℕ) → Option Reading
+abbrev pub vote_of : Reading → Option (ℕ × ℕ) → Option Reading
 vote_of r o = option_and_then (λ n. took [] r (Vote n.0 n.1)) o
 
-abbrev entry_of : Reading → Option (ℕ × ℕ × List ℕ) → Option Reading
+abbrev pub entry_of : Reading → Option (ℕ × ℕ × List ℕ) → Option Reading
 entry_of r o = option_and_then (λ n. took [] r (Entry n.0 n.1 n.2)) o
 
 -- an item that is spelled is read

@@ -9,6 +9,7 @@ ghost use Rattle.raft_durable.specs.Stores.{read_store};
 /// A list is read exactly where items that follow each other are spelled by it, and it says what they say.
 pub fn one_spelling()
     ensures spelled { (bytes : List (List ℕ)) (k : Kept) (s : Spells bytes k) → AllFit s.items → read_store bytes ≡ Some k }
+    ensures read { (bytes : List (List ℕ)) (k : Kept) → read_store bytes ≡ Some k → Spells bytes k }
 {}
 
 /// Items that a node adds to its store, in the order of a step: the store then says term, vote and log after them. A front of
