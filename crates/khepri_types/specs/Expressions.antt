@@ -3,8 +3,8 @@ use Rattle.std.specs.Prelude.{ℕ, Bool, not, ◌&&◌, ◌||◌, ltb, nat_le, i
 use Rattle.std.specs.Int.{saturate_signed, w64}
 use Rattle.khepri_terms.specs.Terms.{NameText}
 use Rattle.khepri_terms.specs.declared.name.Kind.TheVariants as kinds
-use Rattle.khepri_terms.specs.declared.name.TheConstants.{MAX_NAME}
-use Rattle.khepri_terms.specs.declared.path.TheConstants.{MAX_PATH_TEXT}
+use Rattle.khepri_terms.specs.declared.limits.TheConstants.{MAX_NAME}
+use Rattle.khepri_terms.specs.declared.limits.TheConstants.{MAX_PATH_TEXT}
 use Rattle.khepri_terms.specs.declared.rec.Field.{Field}
 use Rattle.khepri_terms.specs.declared.scalar.Scalar.{Scalar}
 use Rattle.khepri_terms.specs.declared.scalar.Scalar.TheVariants as scalars
