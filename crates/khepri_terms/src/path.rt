@@ -114,6 +114,12 @@ impl Path {
         names_len(self.names.as_slice())
     }
 
+    pub fn names(&self) -> &[Name]
+        ensures { result.now ≡ self.now }
+    {
+        self.names.as_slice()
+    }
+
     pub fn name(&self, i: usize) -> &Name
         requires { i < length self.now }
         ensures { slice_get self.now i ≡ Some result.now }

@@ -35,7 +35,7 @@ root_bytes : sum (map node_bytes (([], fresh Empty) ∷ [])) ≡ 1
 unfolding payload_text
 root_bytes = refl
 
-opening_bytes : bytes opening_tree ≡ 1
+pub opening_bytes : bytes opening_tree ≡ 1
 opening_bytes = ap (λ (es : List (List NameText × Node)). sum (map node_bytes es)) opening_entries ∙ root_bytes
 
 pub fits-opening : IsTrue (fits opening_tree)

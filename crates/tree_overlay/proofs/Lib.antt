@@ -1,0 +1,7 @@
+pub mod Overlay
+pub mod Applying
+pub mod Counting
+pub mod Hatching
+pub mod Marking
+pub mod Seeing
+pub mod Shallow
