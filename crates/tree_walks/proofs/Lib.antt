@@ -1,0 +1,6 @@
+pub mod Betweens
+pub mod Sweeping
+pub mod Ways
+pub mod Touching
+pub mod Raising
+pub mod Dropping
