@@ -3,7 +3,6 @@
 #![tactic(auto)]
 
 mod copies;
-mod lengths;
 mod sizes;
 mod views;
 

@@ -6,7 +6,6 @@ ghost use Rattle.khepri_types.specs.Texts.{payload_text, last_text};
 ghost use Rattle.khepri_types.specs.Views.{node_of};
 ghost use Rattle.khepri_terms.specs.Lengths.{capped};
 
-use crate::lengths::condition_len;
 use khepri_terms::Path;
 use khepri_types::{Node, NodeView, Payload, Watch};
 use std::alloc::AllocError;
@@ -37,7 +36,7 @@ fn last_len(path: &Path) -> u64
 fn watch_len(watch: &Watch) -> u64
     ensures { result ≡ capped (watch_bytes watch.now) }
 {
-    (watch.target.text_len() as u64).saturating_add(condition_len(&watch.cond))
+    (watch.target.text_len() as u64).saturating_add(watch.cond.text_len())
 }
 
 fn watches_len(watches: &[Watch]) -> u64
