@@ -346,7 +346,7 @@ impl KhepriMachine {
         ensures value { IfOk result (λ o. write self.now path.now payload.now watch.now ≡ reply_and_next self.now o) }
         ensures over { IfOk result (λ o. IsOver self.now.tree o) }
     {
-        let mut draft = self.tree.draft()?;
+        let mut draft = self.tree.draft();
         let version = draft.set(path, payload, steps)?;
         give_watches(&mut draft, path, watch)?;
         finish_write(draft, path, version, steps)
@@ -362,7 +362,7 @@ impl KhepriMachine {
         ensures value { IfOk result (λ o. dropped self.now paths.now ≡ reply_and_next self.now o) }
         ensures over { IfOk result (λ o. IsOver self.now.tree o) }
     {
-        let mut draft = self.tree.draft()?;
+        let mut draft = self.tree.draft();
         let count = draft.drop_all(paths, steps)?;
         settle_within_limits(draft, count, steps)
     }

@@ -12,7 +12,7 @@ ghost use Rattle.khepri_types.specs.Patterns.{matching, matching_nodes};
 ghost use Rattle.khepri_types.specs.Views.{as_seen};
 ghost use Rattle.khepri_types.specs.Tree.{Tree as Nodes, IsTree, stands};
 ghost use Rattle.pattern_match.specs.Masks.{AreMasks};
-ghost use Rattle.tree_nodes.specs.Kept.{IsShallow};
+ghost use Rattle.tree_nodes.specs.Drafts.{IsShallow};
 ghost use Rattle.tree_nodes.specs.Next.{IsNext};
 ghost use Rattle.khepri_machine.specs.Scans.{ahead, ComesNext, AreBehind, path_or_root};
 ghost use Rattle.khepri_machine.specs.Listing.{Lists};
@@ -35,14 +35,18 @@ pub(crate) struct Found {
 }
 
 // The path that comes next.
-fn next_path<'t, L: Ledger>(tree: &'t Tree, last: Option<&Path>, steps: &mut Steps<L>) -> &'t Path
+fn next_path<L: Ledger>(
+    tree: &Tree,
+    last: Option<&Path>,
+    steps: &mut Steps<L>,
+) -> Result<Path, AllocError>
     requires more { 0 < length (ahead tree.now (option_copied last)) }
-    ensures next { IsNext path_cmp (λ q. IsTrue (stands tree.now q)) (option_copied last.entry) (Some result.now) }
+    ensures next { IfOk result (λ p. IsNext path_cmp (λ q. IsTrue (stands tree.now q)) (option_copied last.entry) (Some p)) }
 {
-    let Some(path) = tree.path_after(last, steps) else {
+    let Some(path) = tree.path_after(last, steps)? else {
         unreachable!()
     };
-    path
+    Ok(path)
 }
 
 // The node at a path that stands.
@@ -81,9 +85,9 @@ fn climb(masks: &mut MaskPath, from: usize, to: usize)
 }
 
 // A node that a scan has come to.
-#[derive(Clone, Copy)]
+#[derive(Drop)]
 struct Visited<'t> {
-    path: &'t Path,
+    path: Path,
     node: NodeView<'t>,
 }
 
@@ -94,29 +98,29 @@ fn visit<'t, L: Ledger>(
     masks: &mut MaskPath,
     last: Option<&Path>,
     steps: &mut Steps<L>,
-) -> Visited<'t>
+) -> Result<Visited<'t>, AllocError>
     requires tree { IsTree tree.now }
     requires shallow { IsShallow tree.now }
     requires more { 0 < length (ahead tree.now (option_copied last)) }
     requires behind { AreBehind pattern.now tree.now (option_copied last) masks.old }
-    ensures next { ComesNext tree.now (option_copied last.entry) result.path.now }
-    ensures node { Some (as_seen result.node) ≡ seen_at tree.now result.path.now }
-    ensures masks { AreMasks pattern.now tree.now [] result.path.now masks.new }
+    ensures next { IfOk result (λ v. ComesNext tree.now (option_copied last.entry) v.path) }
+    ensures node { IfOk result (λ v. Some (as_seen v.node) ≡ seen_at tree.now v.path) }
+    ensures masks { IfOk result (λ v. AreMasks pattern.now tree.now [] v.path masks.new) }
 {
-    let path = next_path(tree, last, steps);
-    let node = standing(tree, path, steps);
+    let path = next_path(tree, last, steps)?;
+    let node = standing(tree, &path, steps);
     let names = path.len();
     if names == 0 {
-        return Visited { path, node };
+        return Ok(Visited { path, node });
     }
     climb(masks, names_of(last), names - 1);
     masks.enter(pattern, &node);
-    Visited { path, node }
+    Ok(Visited { path, node })
 }
 
 // A node as a reply lists it.
 fn listed(visited: &Visited) -> Result<ShownNode, AllocError>
-    ensures { (T : Nodes) (n : Node) → get T visited.now.path.now ≡ Some n → Some (as_seen visited.now.node) ≡ seen_at T visited.now.path.now → IfOk result (λ s. s ≡ shown_node T (visited.now.path.now, n)) }
+    ensures { (T : Nodes) (n : Node) → get T visited.now.path ≡ Some n → Some (as_seen visited.now.node) ≡ seen_at T visited.now.path → IfOk result (λ s. s ≡ shown_node T (visited.now.path, n)) }
 {
     let node = visited.node;
     Ok(ShownNode {
@@ -132,7 +136,7 @@ impl Found {
     // One node more, of which only the first so many are listed.
     fn add(&mut self, visited: &Visited, limit: u64) -> Result<(), AllocError>
         requires room { self.old.count + 1 < 2 ^ 64 }
-        ensures { (T : Nodes) (es : List (List NameText × Node)) (n : Node) → get T visited.now.path.now ≡ Some n → Some (as_seen visited.now.node) ≡ seen_at T visited.now.path.now → Lists T limit es self.old → OnOk result (Lists T limit (es ++ (visited.now.path.now, n) ∷ []) self.new) }
+        ensures { (T : Nodes) (es : List (List NameText × Node)) (n : Node) → get T visited.now.path ≡ Some n → Some (as_seen visited.now.node) ≡ seen_at T visited.now.path → Lists T limit es self.old → OnOk result (Lists T limit (es ++ (visited.now.path, n) ∷ []) self.new) }
     {
         if self.count < limit {
             self.nodes.push(listed(visited)?)?;
@@ -154,13 +158,13 @@ pub(crate) fn find<L: Ledger>(
     ensures nodes { IfOk result (λ f. f.nodes.items ≡ map (shown_node tree.now) (take limit (matching_nodes pattern.now tree.now))) }
 {
     let mut masks = MaskPath::start(alloc, pattern);
-    let mut last: Option<&Path> = None;
+    let mut last: Option<Path> = None;
     let mut found = Found {
         count: 0,
         nodes: Vec::new(alloc),
     };
     'nodes: for _ in 0..tree.nodes() {
-        let visited = visit(tree, pattern, &mut masks, last, steps);
+        let visited = visit(tree, pattern, &mut masks, last.as_ref(), steps)?;
         if masks.top().accepts(pattern) {
             found.add(&visited, limit)?;
         }
@@ -179,10 +183,10 @@ pub(crate) fn matching<L: Ledger>(
     ensures { IfOk result (λ v. v.items ≡ matching pattern.now tree.now) }
 {
     let mut masks = MaskPath::start(alloc, pattern);
-    let mut last: Option<&Path> = None;
+    let mut last: Option<Path> = None;
     let mut paths = Vec::new(alloc);
     'nodes: for _ in 0..tree.nodes() {
-        let visited = visit(tree, pattern, &mut masks, last, steps);
+        let visited = visit(tree, pattern, &mut masks, last.as_ref(), steps)?;
         if masks.top().accepts(pattern) {
             paths.push(visited.path.copy()?)?;
         }

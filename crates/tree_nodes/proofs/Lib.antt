@@ -1,12 +1,3 @@
-pub mod Slots
-pub mod Kids
-pub mod Trees
-pub mod Ways
-pub mod Beginnings
-pub mod Nexts
-pub mod Cuts
-pub mod Lefts
-pub mod ByteSums
-pub mod Touching
-pub mod Alls
+pub mod Sorted
 pub mod Walking
+pub mod Laying

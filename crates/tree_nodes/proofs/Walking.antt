@@ -1,12 +1,11 @@
 -- The nodes in order of path, one after another.
-use Rattle.std.proofs.Common.{◌≡◌, ℕ, zero, suc, ◌+◌, ◌<◌, ◌≤◌, Bool, true, false, cond, List, [], ◌∷◌, length, get_or, drop, refl, sym, ap, subst, ◌∙◌, drop-cons, arith, Option, Some, None, Less, Equal, Greater, ◌&&◌}
+use Rattle.std.proofs.Common.{◌≡◌, Bool, true, false, cond, List, [], ◌∷◌, length, refl, sym, ap, subst, ◌∙◌, arith, Option, Some, None, Less, Equal, Greater, ◌&&◌}
 use Rattle.std.specs.Prelude.{IsTrue, is_some, T as Holds}
 use Rattle.std.specs.List.{filter}
 use Rattle.std.specs.Ordering.{is_eq, is_lt, ordering_reverse, ordering_then}
 use Rattle.std.specs.Cmp.{tied_itself}
 use Rattle.std.specs.declared.cmp.Ordering.{Ordering}
-use Rattle.std.proofs.lemmas.List.{drop_all}
-use Rattle.std.specs.FinMap.{get, entries, find, from_sorted, is_sorted, get-entries, get-from_sorted, entries_sorted}
+use Rattle.std.specs.FinMap.{get, entries, find, is_sorted, get-entries, entries_sorted}
 use Rattle.std.specs.FinMap.Entries.{below_all, is_sorted-where_key, find-where_key}
 use Rattle.khepri_terms.specs.Terms.{NameText}
 use Rattle.khepri_terms.specs.Order.{name_cmp, path_cmp}
@@ -17,7 +16,7 @@ use Rattle.khepri_types.proofs.Order.{name_cmp_total, path_cmp_total, name_cmp-s
 use Rattle.khepri_types.proofs.Trees.{tie_is}
 use Rattle.khepri_types.proofs.Fronts.{child_taken, child_long}
 use Rattle.tree_nodes.specs.Next.{IsNext, follows}
-use Rattle.tree_nodes.proofs.Slots.{Entry, IsSorted, first_true, second_true, both_true, head_sorted, tail_sorted, below-at, below-all, find-above, turned}
+use Rattle.tree_nodes.proofs.Sorted.{Entry, IsSorted, first_true, second_true, both_true, head_sorted, below-all, find-above, turned}
 
 abbrev Path : Type 0
 Path = List NameText
@@ -34,12 +33,6 @@ is_less Greater h = absurd cc
 follows-on : (after : Option Path) (x y : Path) → IsTrue (follows path_cmp after x) → path_cmp x y ≡ Less → IsTrue (follows path_cmp after y)
 follows-on None x y f less = refl
 follows-on (Some a) x y f less = ap is_lt (path_cmp_total.trans a x y (is_less (path_cmp a x) f) less)
-
-follows-not : (after : Option Path) (x y : Path) → path_cmp x y ≡ Less → follows path_cmp after y ≡ false → follows path_cmp after x ≡ false
-follows-not after x y less low = elim (follows path_cmp after x) as (λ b. follows path_cmp after x ≡ b → b ≡ false) [
-  | true ↦ λ t. absurd (cc (follows-on after x y t less, low))
-  | false ↦ λ t. refl
-] refl
 
 -- what stands above one that comes after comes after too
 all_follow : (after : Option Path) (q : Path) (es : List Entry) → IsTrue (follows path_cmp after q) → IsTrue (below_all path_cmp q es) → later after es ≡ es
@@ -58,40 +51,6 @@ all_above q (e ∷ es) h =
 pub all_none : (es : List Entry) → later None es ≡ es
 all_none [] = refl
 all_none (e ∷ es) = ap (λ (xs : List Entry). e ∷ xs) (all_none es)
-
--- ---- a search
-
--- none of the first i comes after
-abbrev pub Reached : Option Path → List Entry → ℕ → Type 0
-Reached after nodes i = later after nodes ≡ later after (drop i nodes)
-
--- all the others do
-abbrev pub Passed : Option Path → List Entry → ℕ → Type 0
-Passed after nodes i = later after (drop i nodes) ≡ drop i nodes
-
-reached-past : (after : Option Path) (nodes : List Entry) (i : ℕ) (e : Entry) → IsSorted nodes → i < length nodes → e ≡ get_or nodes i e → follows path_cmp after e.0 ≡ false → Reached after nodes (suc i)
-reached-past after [] i e sorted lt is low = absurd (omega arith)
-reached-past after (x ∷ nodes) zero e sorted lt is low =
-    ap (λ (b : Bool). cond b (x ∷ later after nodes) (later after nodes)) (ap (λ (y : Entry). follows path_cmp after y.0) (sym is) ∙ low)
-reached-past after (x ∷ nodes) (suc i) e sorted lt is low =
-    let less : path_cmp x.0 e.0 ≡ Less = below-at x.0 nodes i e (omega arith) is (head_sorted x nodes sorted) in
-    ap (λ (b : Bool). cond b (x ∷ later after nodes) (later after nodes)) (follows-not after x.0 e.0 less low)
-    ∙ reached-past after nodes i e (tail_sorted x nodes sorted) (omega arith) is low
-
-pub reached-more : (after : Option Path) (nodes : List Entry) (i : ℕ) (e : Entry) → IsSorted nodes → i < length nodes → e ≡ get_or nodes i e → follows path_cmp after e.0 ≡ false → Reached after nodes (i + 1)
-reached-more after nodes i e sorted lt is low = subst (Reached after nodes) {x = suc i} (omega arith) (reached-past after nodes i e sorted lt is low)
-
-pub passed-at : (after : Option Path) (nodes : List Entry) (i : ℕ) (e : Entry) → IsSorted nodes → i < length nodes → e ≡ get_or nodes i e → IsTrue (follows path_cmp after e.0) → Passed after nodes i
-passed-at after [] i e sorted lt is f = absurd (omega arith)
-passed-at after (x ∷ nodes) zero e sorted lt is f =
-    let first : IsTrue (follows path_cmp after x.0) = ap (λ (y : Entry). follows path_cmp after y.0) (sym is) ∙ f in
-    ap (λ (b : Bool). cond b (x ∷ later after nodes) (later after nodes)) first
-    ∙ ap (λ (xs : List Entry). x ∷ xs) (all_follow after x.0 nodes first (head_sorted x nodes sorted))
-passed-at after (x ∷ nodes) (suc i) e sorted lt is f = passed-at after nodes i e (tail_sorted x nodes sorted) (omega arith) is f
-
-pub passed-none : (after : Option Path) (nodes : List Entry) → Passed after nodes (length nodes)
-passed-none after [] = refl
-passed-none after (x ∷ nodes) = passed-none after nodes
 
 -- ---- the first of those that come after
 
@@ -150,19 +109,6 @@ next-some after es e rest sorted is =
           let none : find path_cmp q rest ≡ None = find-above q rest (below-all q e.0 rest less one.above) in
           absurd (cc (at, ap is_some (behind ∙ none))),
     )
-
--- the place where those that come after begin gives the next
-pub next_at : (after : Option Path) (nodes : List Entry) (i : ℕ) (e : Entry) → IsSorted nodes → i < length nodes → e ≡ get_or nodes i e → later after nodes ≡ drop i nodes → IsNext path_cmp (Found nodes) after (Some e.0)
-next_at after nodes i e sorted lt is begins =
-    next-some after nodes e (drop (suc i) nodes) sorted (begins ∙ (drop-cons nodes i e lt ∙ ap (λ (x : Entry). x ∷ drop (suc i) nodes) (sym is)))
-
-pub next_past : (after : Option Path) (nodes : List Entry) (i : ℕ) → length nodes ≤ i → later after nodes ≡ drop i nodes → IsNext path_cmp (Found nodes) after None
-next_past after nodes i le begins = next-none after nodes (begins ∙ drop_all i nodes le)
-
--- in a tree
-pub next_stands : (nodes : List Entry) → IsSorted nodes → (after o : Option Path) → IsNext path_cmp (Found nodes) after o → IsNext path_cmp (λ q. IsTrue (stands (from_sorted {R = path_cmp} nodes) q)) after o
-next_stands nodes sorted after o next =
-    subst (λ (P : Path → Type 0). IsNext path_cmp P after o) (λ i q. IsTrue (is_some (sym (get-from_sorted path_cmp nodes q (held (is_sorted path_cmp nodes) sorted)) i))) next
 
 -- ---- a walk over all nodes of a tree
 

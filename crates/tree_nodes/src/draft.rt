@@ -15,61 +15,53 @@ ghost use Rattle.khepri_types.specs.Sizes.{bytes};
 ghost use Rattle.khepri_types.specs.Tree.{IsTree, set, stands};
 ghost use Rattle.khepri_types.specs.Views.{seen_of, node_of};
 ghost use Rattle.khepri_types.specs.Watching.{given_watches};
-ghost use Rattle.tree_nodes.specs.Kept.{IsShallow};
 ghost use Rattle.tree_nodes.specs.Next.{HasChild, IsNext};
-ghost use Rattle.tree_nodes.specs.Drafts.{is_touched, IsCovered, IsRising, IsTouched, StaysTouched, Touches};
+ghost use Rattle.tree_nodes.specs.Drafts.{is_touched, IsCovered, IsRising, IsShallow, IsTouched, StaysTouched, Touches};
 
-use crate::store::Store;
-use crate::touched::{next_touched, note};
 use crate::tree::Tree;
 use khepri_terms::{Name, Path};
 use khepri_types::{NodeView, Payload, Watch};
 use std::alloc::{AllocError, Global};
-use std::collections::BTreeSet;
 use std::marker::Model;
-use std::snapshot::Snapshot;
 use std::sync::ledger::Ledger;
 use step_count::Steps;
+use tree_walks::{drop_all, set, set_watches};
 
-/// What a tree is to become, over the tree that it began from. A draft may pass the limits of a tree. After a call that answered
-/// `AllocError` it may only be dropped.
+/// What a tree is to become, over the tree that it began from: the changed nodes alone. A draft may pass the limits of a tree. After
+/// a call that answered `AllocError` it may only be dropped.
 #[derive(Drop)]
 pub struct Draft<'a> {
     base: &'a Tree,
-    pub(crate) store: Store,
-    touched: BTreeSet<Path>,
+    pub(crate) nested: tree_overlay::Draft<'a>,
 }
 
 impl<'a> Model for Draft<'a> {
     ghost use Rattle.std.specs.Prelude.{◌≡◌};
     ghost use Rattle.std.specs.Coded.{codes};
-    ghost use Rattle.std.specs.FinMap.{from_sorted, code};
-    ghost use Rattle.khepri_terms.specs.Order.{path_cmp};
+    ghost use Rattle.std.specs.FinMap.{code};
     ghost use Rattle.khepri_types.specs.contracts.condition.Condition as condition;
-    ghost use Rattle.tree_nodes.specs.Drafts.{Drafted, IsCovered};
-    ghost use Rattle.tree_nodes.specs.Kept.{IsKept, nodes_bytes};
+    ghost use Rattle.tree_nodes.specs.Drafts.{Drafted};
 
     ghost Value = { Drafted };
 
     ghost coded = { Prim.hlevel (code, codes, condition.the_row.coded) };
 
-    ghost view = { λ d. record { base = d.base.now; tree = from_sorted {R = path_cmp} d.store.nodes.items; touched = d.touched.keys } };
+    ghost view = { λ d. d.nested };
 
-    ghost invariant = { λ d. IsKept d.store.nodes.items d.store.kids.items × (d.store.bytes ≡ nodes_bytes d.store.nodes.items) × IsCovered d.base.now (from_sorted {R = path_cmp} d.store.nodes.items) d.touched.keys };
+    ghost invariant = { λ d. d.nested.base ≡ d.base.now };
 }
 
 impl<'a> Draft<'a> {
     // A draft that is the tree itself, with nothing touched.
-    pub(crate) fn over(base: &'a Tree) -> Result<Draft<'a>, AllocError>
-        ensures base { IfOk result (λ d. d.base ≡ base.now) }
-        ensures tree { IfOk result (λ d. d.tree ≡ base.now) }
-        ensures touched { IfOk result (λ d. d.touched ≡ []) }
+    pub(crate) fn over(base: &'a Tree) -> Draft<'a>
+        ensures base { result.base ≡ base.now }
+        ensures tree { result.tree ≡ base.now }
+        ensures touched { result.touched ≡ [] }
     {
-        Ok(Draft {
+        Draft {
             base,
-            store: base.store.copy()?,
-            touched: BTreeSet::new(base.store.alloc),
-        })
+            nested: base.nested.draft(),
+        }
     }
 
     /// The tree under the draft.
@@ -81,7 +73,7 @@ impl<'a> Draft<'a> {
 
     /// The allocator of the draft's nodes.
     pub fn alloc(&self) -> Global {
-        self.store.alloc
+        self.nested.alloc()
     }
 
     /// How many nodes stand.
@@ -90,27 +82,28 @@ impl<'a> Draft<'a> {
         ensures tree { IsTree self.now.tree }
         ensures shallow { IsShallow self.now.tree }
     {
-        self.store.len()
+        self.nested.nodes()
     }
 
     /// The bytes of all nodes; at 2^64 - 1 and beyond, 2^64 - 1.
     pub fn bytes(&self) -> u64
         ensures { result ≡ capped (bytes self.now.tree) }
     {
-        self.store.bytes()
+        self.nested.bytes()
     }
 
-    /// The node at a path: one step.
+    /// The node at a path: one step. It takes no memory.
     pub fn node<L: Ledger>(&self, path: &Path, steps: &mut Steps<L>) -> Option<NodeView>
         ensures node { seen_of result ≡ seen_at self.now.tree path.now }
         ensures watches { IfSome result (λ v. get self.now.tree path.now ≡ Some (node_of v)) }
         ensures steps { steps.new ≡ steps.old + 1 }
     {
         steps.tick();
-        self.store.node(path)
+        self.nested.node(path)
     }
 
-    /// The least name of a child of the path that comes after the other name; the least of all after none: one step.
+    /// The least name of a child of the path that comes after the other name; the least of all after none: one step. It takes no
+    /// memory.
     pub fn child_after<L: Ledger>(
         &self,
         path: &Path,
@@ -121,12 +114,12 @@ impl<'a> Draft<'a> {
         ensures steps { steps.new ≡ steps.old + 1 }
     {
         steps.tick();
-        self.store.child_after(path, after)
+        self.nested.child_after(path, after)
     }
 
-    /// The least touched path that comes after the other path; the least of all after none: one step. A call on the draft touches
-    /// each path at which it makes, drops or changes a node, its versions and watches included. Watches that are given again count
-    /// as a change.
+    /// The least touched path that comes after the other path; the least of all after none: one step. It takes no memory. A call on
+    /// the draft touches each path at which it makes, drops or changes a node, its versions and watches included. Watches that are
+    /// given again count as a change.
     pub fn touched_after<L: Ledger>(
         &self,
         after: Option<&Path>,
@@ -138,7 +131,7 @@ impl<'a> Draft<'a> {
         ensures steps { steps.new ≡ steps.old + 1 }
     {
         steps.tick();
-        next_touched(&self.touched, after)
+        self.nested.touched_after(after)
     }
 
     /// Sets a payload at a path, with the nodes that are missing on the way; answers the payload version after that. The steps are
@@ -159,8 +152,7 @@ impl<'a> Draft<'a> {
     {
         steps.add(path.len() as u64);
         steps.tick();
-        self.store.note_set(path, payload, &mut self.touched)?;
-        self.store.set(path, payload)
+        set(&mut self.nested, path, payload)
     }
 
     /// Drops the nodes at these paths and all below them, in one round; answers how many they were. The steps are one for each path
@@ -179,7 +171,7 @@ impl<'a> Draft<'a> {
         ensures steps { IfOk result (λ n. steps.new ≡ steps.old + length paths.now + n) }
         ensures idle { OnErr result (steps.new ≡ steps.old) }
     {
-        let count = self.store.drop_all(paths, &mut self.touched)?;
+        let count = drop_all(&mut self.nested, paths)?;
         steps.add(paths.len() as u64);
         steps.add(count);
         Ok(count)
@@ -193,22 +185,18 @@ impl<'a> Draft<'a> {
         ensures touches { OnOk result ((q : List NameText) → is_touched self.new.touched q ≡ (is_eq (path_cmp path.now q) || is_touched self.old.touched q)) }
         ensures stays { StaysTouched self.old.touched self.new.touched }
     {
-        note(&mut self.touched, path, true)?;
-        self.store.set_watches(path, watches)
+        set_watches(&mut self.nested, path, watches)
     }
 
-    /// What the draft came to, for a tree to absorb that equals the one under it.
+    /// What the draft came to, for a tree to absorb that equals the one under it. No payload is copied.
     pub fn into_changes(self) -> Changes
         ensures base { result.base ≡ self.entry.base }
         ensures tree { result.tree ≡ self.entry.tree }
         ensures touched { result.touched ≡ self.entry.touched }
         ensures rising { IsRising result.touched }
     {
-        let _paths = self.touched.len();
         Changes {
-            base: Snapshot::of(self.base),
-            store: self.store,
-            touched: self.touched,
+            nested: self.nested.into_changes(),
         }
     }
 }
@@ -216,26 +204,18 @@ impl<'a> Draft<'a> {
 /// What a draft came to.
 #[derive(Drop)]
 pub struct Changes {
-    // The tree under the draft. It takes no bytes: it is there for contracts alone.
-    base: Snapshot<Tree>,
-    pub(crate) store: Store,
-    touched: BTreeSet<Path>,
+    pub(crate) nested: tree_overlay::Changes,
 }
 
 impl Model for Changes {
-    ghost use Rattle.std.specs.Prelude.{◌≡◌};
     ghost use Rattle.std.specs.Coded.{codes};
-    ghost use Rattle.std.specs.FinMap.{from_sorted, code};
-    ghost use Rattle.khepri_terms.specs.Order.{path_cmp};
+    ghost use Rattle.std.specs.FinMap.{code};
     ghost use Rattle.khepri_types.specs.contracts.condition.Condition as condition;
-    ghost use Rattle.tree_nodes.specs.Drafts.{Drawn, IsCovered};
-    ghost use Rattle.tree_nodes.specs.Kept.{IsKept, nodes_bytes};
+    ghost use Rattle.tree_nodes.specs.Drafts.{Drafted};
 
-    ghost Value = { Drawn };
+    ghost Value = { Drafted };
 
     ghost coded = { Prim.hlevel (code, codes, condition.the_row.coded) };
 
-    ghost view = { λ c. record { base = c.base.value; tree = from_sorted {R = path_cmp} c.store.nodes.items; touched = c.touched.keys } };
-
-    ghost invariant = { λ c. IsKept c.store.nodes.items c.store.kids.items × (c.store.bytes ≡ nodes_bytes c.store.nodes.items) × IsCovered c.base.value (from_sorted {R = path_cmp} c.store.nodes.items) c.touched.keys };
+    ghost view = { λ c. c.nested };
 }

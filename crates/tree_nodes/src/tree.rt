@@ -1,5 +1,5 @@
 // The tree.
-ghost use Rattle.std.specs.Prelude.{◌≡◌, ◌+◌, IfOk, OnOk, IfSome, IsTrue, [], map, Some};
+ghost use Rattle.std.specs.Prelude.{◌≡◌, ◌+◌, IfOk, OnOk, IfSome, IsTrue, [], length, map, Some};
 ghost use Rattle.std.specs.Option.{option_copied};
 ghost use Rattle.std.specs.FinMap.{get, is_sorted, len};
 ghost use Rattle.khepri_terms.specs.Order.{name_cmp, path_cmp};
@@ -8,12 +8,12 @@ ghost use Rattle.khepri_types.specs.Conditions.{seen_at};
 ghost use Rattle.khepri_types.specs.Sizes.{bytes};
 ghost use Rattle.khepri_types.specs.Tree.{IsTree, opening_tree};
 ghost use Rattle.khepri_types.specs.Views.{seen_of, node_of};
-ghost use Rattle.tree_nodes.specs.Kept.{IsShallow};
+ghost use Rattle.tree_nodes.specs.Drafts.{IsShallow};
 ghost use Rattle.tree_nodes.specs.Next.{HasChild, IsNext};
 ghost use Rattle.tree_nodes.specs.Parts.{entry_of, tree_of};
 
 use crate::draft::{Changes, Draft};
-use crate::store::Store;
+use crate::parts::changes_of;
 use khepri_terms::{Name, Path};
 use khepri_types::{NodePart, NodeView};
 use std::alloc::{AllocError, Global};
@@ -24,25 +24,20 @@ use step_count::Steps;
 /// The nodes by their paths. The root stands, with each path all its fronts, and no path has more than 32 names.
 #[derive(Drop)]
 pub struct Tree {
-    pub(crate) store: Store,
+    pub(crate) nested: tree_overlay::Tree,
 }
 
 impl Model for Tree {
-    ghost use Rattle.std.specs.Prelude.{◌≡◌};
     ghost use Rattle.std.specs.Coded.{codes};
-    ghost use Rattle.std.specs.FinMap.{from_sorted, code};
-    ghost use Rattle.khepri_terms.specs.Order.{path_cmp};
+    ghost use Rattle.std.specs.FinMap.{code};
     ghost use Rattle.khepri_types.specs.contracts.condition.Condition as condition;
     ghost use Rattle.khepri_types.specs.Tree.{Tree as Nodes};
-    ghost use Rattle.tree_nodes.specs.Kept.{IsKept, nodes_bytes};
 
     ghost Value = { Nodes };
 
     ghost coded = { Prim.hlevel (code, codes, condition.the_row.coded) };
 
-    ghost view = { λ t. from_sorted {R = path_cmp} t.store.nodes.items };
-
-    ghost invariant = { λ t. IsKept t.store.nodes.items t.store.kids.items × (t.store.bytes ≡ nodes_bytes t.store.nodes.items) };
+    ghost view = { λ t. t.nested };
 }
 
 impl Tree {
@@ -51,7 +46,7 @@ impl Tree {
         ensures { IfOk result (λ t. t ≡ opening_tree) }
     {
         Ok(Tree {
-            store: Store::fresh(alloc)?,
+            nested: tree_overlay::Tree::fresh(alloc),
         })
     }
 
@@ -63,9 +58,10 @@ impl Tree {
         requires shallow { IsShallow (tree_of nodes.now) }
         ensures { IfOk result (λ t. t ≡ tree_of nodes.now) }
     {
-        Ok(Tree {
-            store: Store::of(alloc, nodes)?,
-        })
+        let mut nested = tree_overlay::Tree::fresh(alloc);
+        let changes = changes_of(&nested, nodes)?;
+        nested.absorb(changes)?;
+        Ok(Tree { nested })
     }
 
     /// How many nodes stand.
@@ -74,27 +70,28 @@ impl Tree {
         ensures tree { IsTree self.now }
         ensures shallow { IsShallow self.now }
     {
-        self.store.len()
+        self.nested.nodes()
     }
 
     /// The bytes of all nodes; at 2^64 - 1 and beyond, 2^64 - 1.
     pub fn bytes(&self) -> u64
         ensures { result ≡ capped (bytes self.now) }
     {
-        self.store.bytes()
+        self.nested.bytes()
     }
 
-    /// The node at a path: one step.
+    /// The node at a path: one step. It takes no memory.
     pub fn node<L: Ledger>(&self, path: &Path, steps: &mut Steps<L>) -> Option<NodeView>
         ensures node { seen_of result ≡ seen_at self.now path.now }
         ensures watches { IfSome result (λ v. get self.now path.now ≡ Some (node_of v)) }
         ensures steps { steps.new ≡ steps.old + 1 }
     {
         steps.tick();
-        self.store.node(path)
+        self.nested.node(path)
     }
 
-    /// The least name of a child of the path that comes after the other name; the least of all after none: one step.
+    /// The least name of a child of the path that comes after the other name; the least of all after none: one step. It takes no
+    /// memory.
     pub fn child_after<L: Ledger>(
         &self,
         path: &Path,
@@ -105,19 +102,20 @@ impl Tree {
         ensures steps { steps.new ≡ steps.old + 1 }
     {
         steps.tick();
-        self.store.child_after(path, after)
+        self.nested.child_after(path, after)
     }
 
-    /// A draft of what the tree is to become. For now it copies all nodes.
-    pub fn draft(&self) -> Result<Draft, AllocError>
-        ensures base { IfOk result (λ d. d.base ≡ self.now) }
-        ensures tree { IfOk result (λ d. d.tree ≡ self.now) }
-        ensures touched { IfOk result (λ d. d.touched ≡ []) }
+    /// A draft of what the tree is to become. It takes no memory.
+    pub fn draft(&self) -> Draft
+        ensures base { result.base ≡ self.now }
+        ensures tree { result.tree ≡ self.now }
+        ensures touched { result.touched ≡ [] }
     {
         Draft::over(self)
     }
 
-    /// The tree becomes what the draft came to from which the changes are.
+    /// The tree becomes what the draft came to from which the changes are: a step for each touched path. No payload is copied. After
+    /// `AllocError` the tree may only be dropped.
     pub fn absorb<L: Ledger>(
         &mut self,
         changes: Changes,
@@ -125,9 +123,9 @@ impl Tree {
     ) -> Result<(), AllocError>
         requires same { self.old ≡ changes.base }
         ensures tree { OnOk result (self.new ≡ changes.tree) }
-        ensures steps { steps.new ≡ steps.old }
+        ensures steps { steps.new ≡ steps.old + length changes.touched }
     {
-        self.store = changes.store;
-        Ok(())
+        steps.add(changes.nested.touched());
+        self.nested.absorb(changes.nested)
     }
 }

@@ -12,7 +12,7 @@ use step_count::Steps;
 use tree_nodes::{Draft, Tree};
 
 // The tree of its root alone.
-fn tree_of_a_root(alloc: Global) -> Result<Tree, AllocError> {
+pub(crate) fn tree_of_a_root(alloc: Global) -> Result<Tree, AllocError> {
     let root = NodePart {
         path: Path::root(alloc),
         payload: Payload::Empty,
@@ -109,7 +109,7 @@ fn touch_in<L: Ledger>(
     tree: &mut Tree,
     steps: &mut Steps<L>,
 ) -> Result<Told, AllocError> {
-    let mut draft = tree.draft()?;
+    let mut draft = tree.draft();
     let (touched, is_child) = touch_draft(path, root, &mut draft, steps)?;
     let changes = draft.into_changes();
     tree.absorb(changes, steps)?;

@@ -1,6 +1,5 @@
 use Rattle.std.proofs.Common.{◌≡◌, ◌∙◌, List, [], ◌∷◌, ◌++◌, length, take, map, refl, sym, ap, subst, arith}
 use Rattle.std.specs.Prelude.{is_some}
-use Rattle.std.specs.Option.{option_copied}
 use Rattle.std.proofs.lemmas.List.{length-map}
 use Rattle.khepri_types.specs.Exec.{shown_node}
 use Rattle.khepri_types.specs.Patterns.{matches, matching_nodes}
@@ -16,7 +15,7 @@ nodes-init g c = ([], scan-begins c.args.pattern.now c.args.tree.now c.start-mas
 pub visit-visited-requires-clause-more : goal.visit-visited-requires-clause-more
 visit-visited-requires-clause-more g c =
     let i = c.nodes.invariant in
-    scan-more c.args.pattern.now c.args.tree.now c.nodes.counter (option_copied c.nodes.last) c.nodes.masks i.0 i.1 (omega (arith, c.nodes-end.ensures.count))
+    scan-more c.args.pattern.now c.args.tree.now c.nodes.counter c.nodes.last c.nodes.masks i.0 i.1 (omega (arith, c.nodes-end.ensures.count))
 
 pub visit-visited-requires-clause-behind : goal.visit-visited-requires-clause-behind
 visit-visited-requires-clause-behind g c = c.nodes.invariant.1.behind
@@ -28,27 +27,27 @@ pub nodes-preserved : goal.nodes-preserved
 nodes-preserved g c =
     let parts = c.args.pattern.now in
     let T = c.args.tree.now in
-    let q = c.visit-visited.result.path.now in
+    let q = c.in_ok-visited.visited.path in
     let i = c.nodes.invariant in
-    let next = c.visit-visited.ensures.next in
-    let are = c.visit-visited.ensures.masks in
+    let next = c.in_ok-visited.ensures.next in
+    let are = c.in_ok-visited.ensures.masks in
     let told : c.accepts.result ≡ matches parts T q = c.accepts.ensures T q (ap is_some next.1) (c.top.ensures.mask parts T q are) in
     elim c.if-accepts.branch [
       | then-accepts+in_ok-add w ↦
           let es : List Entry = i.0 ++ (q, next.0) ∷ [] in
-          (es, scan-taken parts T c.nodes.counter (option_copied c.nodes.last) c.nodes.masks c.visit-visited.new.masks i.0 q next i.1 are (sym told ∙ w.if-accepts.true), subst (λ (f : Found). Lists T c.args.limit es f) (sym w.found-is) (w.in_ok-add.ensures T i.0 next.0 next.1 c.visit-visited.ensures.node i.2))
+          (es, scan-taken parts T c.nodes.counter c.nodes.last c.nodes.masks c.visit-visited.new.masks i.0 q next i.1 are (sym told ∙ w.if-accepts.true), subst (λ (f : Found). Lists T c.args.limit es f) (sym w.found-is) (w.in_ok-add.ensures T i.0 next.0 next.1 c.in_ok-visited.ensures.node i.2))
       | else-accepts w ↦
-          (i.0, scan-left parts T c.nodes.counter (option_copied c.nodes.last) c.nodes.masks c.visit-visited.new.masks i.0 q next i.1 are (sym told ∙ w.if-accepts.false), subst (λ (f : Found). Lists T c.args.limit i.0 f) (sym w.found-is) i.2)
+          (i.0, scan-left parts T c.nodes.counter c.nodes.last c.nodes.masks c.visit-visited.new.masks i.0 q next i.1 are (sym told ∙ w.if-accepts.false), subst (λ (f : Found). Lists T c.args.limit i.0 f) (sym w.found-is) i.2)
     ]
 
 pub returns-clause-count : goal.returns-clause-count
 returns-clause-count g c =
     let i = c.nodes.invariant in
-    let all = scan-ends c.args.pattern.now c.args.tree.now c.nodes.counter (option_copied c.nodes.last) c.nodes.masks i.0 i.1 (omega (arith, c.nodes-end.ensures.count)) in
+    let all = scan-ends c.args.pattern.now c.args.tree.now c.nodes.counter c.nodes.last c.nodes.masks i.0 i.1 (omega (arith, c.nodes-end.ensures.count)) in
     i.2.count ∙ (ap length (sym all) ∙ sym (length-map (matching_nodes c.args.pattern.now c.args.tree.now) (λ (e : Entry). e.0)))
 
 pub returns-clause-nodes : goal.returns-clause-nodes
 returns-clause-nodes g c =
     let i = c.nodes.invariant in
-    let all = scan-ends c.args.pattern.now c.args.tree.now c.nodes.counter (option_copied c.nodes.last) c.nodes.masks i.0 i.1 (omega (arith, c.nodes-end.ensures.count)) in
+    let all = scan-ends c.args.pattern.now c.args.tree.now c.nodes.counter c.nodes.last c.nodes.masks i.0 i.1 (omega (arith, c.nodes-end.ensures.count)) in
     i.2.listed ∙ ap (λ (es : List Entry). map (shown_node c.args.tree.now) (take c.args.limit es)) (sym all)

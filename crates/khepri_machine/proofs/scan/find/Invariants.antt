@@ -1,8 +1,7 @@
 use Rattle.std.proofs.Common.{List}
-use Rattle.std.specs.Option.{option_copied}
 use Rattle.khepri_machine.specs.Listing.{Lists}
 use Rattle.khepri_machine.proofs.Gathering.{Entry, Scanned}
 use Rattle.khepri_machine.proofs.scan.find.Given as goal
 
 abbrev pub invariant-nodes : goal.invariant-nodes
-invariant-nodes g l = (es : List Entry) × Scanned l.pattern l.tree l.counter (option_copied l.last) l.masks es × Lists l.tree l.limit es l.found
+invariant-nodes g l = (es : List Entry) × Scanned l.pattern l.tree l.counter l.last l.masks es × Lists l.tree l.limit es l.found

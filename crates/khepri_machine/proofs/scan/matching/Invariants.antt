@@ -1,7 +1,6 @@
 use Rattle.std.proofs.Common.{List, ◌≡◌, map}
-use Rattle.std.specs.Option.{option_copied}
 use Rattle.khepri_machine.proofs.Gathering.{Entry, Scanned}
 use Rattle.khepri_machine.proofs.scan.matching.Given as goal
 
 abbrev pub invariant-nodes : goal.invariant-nodes
-invariant-nodes g l = (es : List Entry) × Scanned l.pattern l.tree l.counter (option_copied l.last) l.masks es × (l.paths.items ≡ map (λ e. e.0) es)
+invariant-nodes g l = (es : List Entry) × Scanned l.pattern l.tree l.counter l.last l.masks es × (l.paths.items ≡ map (λ e. e.0) es)

@@ -5,8 +5,9 @@ use Rattle.khepri_terms.specs.Order.{path_cmp}
 use Rattle.khepri_types.specs.declared.node.Payload.TheVariants.{Empty}
 use Rattle.khepri_types.specs.declared.watch.Watch.{Watch}
 use Rattle.khepri_types.specs.Tree.{Tree, IsTree}
-use Rattle.tree_nodes.specs.Kept.{IsShallow}
-use Rattle.tree_nodes.proofs.Trees.{kept-opening}
+use Rattle.khepri_types.proofs.Standing.{tree-opening}
+use Rattle.tree_nodes.specs.Drafts.{IsShallow}
+use Rattle.tree_nodes.proofs.Laying.{shallow-opening}
 use Rattle.worked_rows.proofs.nodes.tree_of_a_root.Goals as goal
 
 -- the tree of one empty node
@@ -15,8 +16,8 @@ one p w = from_sorted {R = path_cmp} ((p, record { payload = Empty; pv = 1; cv =
 
 pub of-requires-clause-tree : goal.of-requires-clause-tree
 of-requires-clause-tree c =
-    subst (λ (p : List NameText). IsTree (one p c.none.result)) (sym c.root.ensures) (subst (λ (w : List Watch). IsTree (one [] w)) (sym c.none.ensures) kept-opening.tree)
+    subst (λ (p : List NameText). IsTree (one p c.none.result)) (sym c.root.ensures) (subst (λ (w : List Watch). IsTree (one [] w)) (sym c.none.ensures) tree-opening)
 
 pub of-requires-clause-shallow : goal.of-requires-clause-shallow
 of-requires-clause-shallow c =
-    subst (λ (p : List NameText). IsShallow (one p c.none.result)) (sym c.root.ensures) (subst (λ (w : List Watch). IsShallow (one [] w)) (sym c.none.ensures) kept-opening.shallow)
+    subst (λ (p : List NameText). IsShallow (one p c.none.result)) (sym c.root.ensures) (subst (λ (w : List Watch). IsShallow (one [] w)) (sym c.none.ensures) shallow-opening)

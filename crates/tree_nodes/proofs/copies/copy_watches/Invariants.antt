@@ -1,5 +1,0 @@
-use Rattle.std.proofs.Common.{◌≡◌, take}
-use Rattle.tree_nodes.proofs.copies.copy_watches.Given as goal
-
-abbrev pub invariant-loop-watch : goal.invariant-loop-watch
-invariant-loop-watch l = l.all.items ≡ take l.watch-index l.watches

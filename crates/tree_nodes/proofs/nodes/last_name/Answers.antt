@@ -1,6 +1,0 @@
-use Rattle.std.proofs.Common.{arith}
-use Rattle.tree_nodes.proofs.Beginnings.{last_is}
-use Rattle.tree_nodes.proofs.nodes.last_name.Goals as goal
-
-pub returns : goal.returns
-returns c = last_is c.args.path.now _ c.name.result.now c.name.ensures (omega (arith, c.len-names.ensures, c.if-names-eq0.false))
