@@ -21,6 +21,8 @@ mod nodes;
 #[cfg(test)]
 mod stores;
 #[cfg(test)]
+mod tables;
+#[cfg(test)]
 mod terms;
 #[cfg(test)]
 mod vaults;
