@@ -1,11 +1,10 @@
 -- The orders of keys and of places are total, and only equal ones tie.
-use Rattle.std.proofs.Common.{◌≡◌, List, refl, ap, ◌∙◌, Less, Equal, Greater}
+use Rattle.std.proofs.Common.{◌≡◌, refl, ap, ◌∙◌, Less, Equal, Greater}
 use Rattle.std.specs.Ordering.{is_eq, ordering_then}
 use Rattle.std.specs.Cmp.{IsTotalOrder}
 use Rattle.std.specs.FinMap.{IsAntisymmetric}
 use Rattle.std.proofs.lemmas.Cmp.{on_total, then_total}
 use Rattle.khepri_terms.specs.Order.{path_cmp}
-use Rattle.khepri_terms.specs.declared.scalar.Scalar.{Scalar}
 use Rattle.khepri_types.proofs.Order.{path_cmp_total, path_cmp-same}
 use Rattle.khepri_types.specs.Keys.{Place, key_cmp, key_decides, key_ties, key_total, place_cmp}
 
