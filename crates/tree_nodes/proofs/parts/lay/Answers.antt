@@ -17,7 +17,7 @@ pub make-requires-clause-short : goal.make-requires-clause-short
 make-requires-clause-short c = c.requires.shallow c.part-item.result.path (part_stands c.args.nodes.now c.nodes.part-index c.part-item.result c.requires.sorted (omega arith) c.part-item.is)
 
 pub make-requires-clause-below : goal.make-requires-clause-below
-make-requires-clause-below c = missing_named c.nodes.draft.tree c.part-item.result.path c.nodes-nodes-in-nodes.ensures.tree (sym c.stands.ensures ∙ c.if-stands.false)
+make-requires-clause-below c = missing_named c.nodes.draft.tree c.part-item.result.path c.nodes-nodes.ensures.tree (sym c.stands.ensures ∙ c.if-stands.false)
 
 pub make-requires-clause-parent : goal.make-requires-clause-parent
 make-requires-clause-parent c = part_fronts c.args.nodes.now c.nodes.part-index c.part-item.result c.nodes.draft.tree c.requires.sorted c.requires.tree (omega arith) c.part-item.is c.nodes.invariant.laid
