@@ -1,0 +1,7 @@
+pub mod Steps
+pub mod Keeping
+pub mod NodeEvents
+pub mod Worlds
+pub mod Happens
+pub mod Opens
+pub mod Runs

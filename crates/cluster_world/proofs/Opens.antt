@@ -1,0 +1,259 @@
+-- The opening of a world.
+use Rattle.std.proofs.Common.{◌≡◌, ◌≢◌, ℕ, zero, suc, ◌-◌, ◌<◌, ◌≤◌, max, Bool, true, false, cond, ◌&&◌, nat_lt, nat_le, ◌==◌, List, [], ◌∷◌, ◌++◌, length, take, drop, get_or, map, Option, Some, None, refl, sym, ap, ◌∙◌, subst, arith, ◌⊎◌, inl, inr, ⊎_elim, length-take, length-take-le}
+use Rattle.std.proofs.lemmas.Bool.{cases_lt, cases_eq, eqb-true, eq-eqb, and_parts}
+use Rattle.std.proofs.lemmas.List.Elements.{All-nil}
+use Rattle.raft_types.specs.declared.entry.LogEntry.{LogEntry}
+use Rattle.raft_types.specs.declared.event.CoreEvent.TheVariants.{Raise as RaiseEvent}
+use Rattle.raft_types.specs.declared.state.Role.TheVariants.{Follower}
+use Rattle.raft_types.specs.Quorum.{ids}
+use Rattle.raft_types.specs.Core.{CoreParts, quiet}
+use Rattle.raft_types.specs.Step.{on}
+use Rattle.raft_spine.specs.Start.{Start}
+use Rattle.raft_spine.specs.Decided.{Decided}
+use Rattle.raft_claims.proofs.Stores.{tied_stops}
+use Rattle.cluster_world.specs.World.{Machine, Node, World, nodes_of, nobody, log_of, core_of, refreshed, node_at}
+use Rattle.cluster_world.specs.Node.{applied_before, ended, is_due, tidied, tidied_if_due}
+use Rattle.cluster_world.specs.Events.{Opening, with_node, own_event, tidies, tidies_if_due, starts, fails_to_start, opening_of, all_start, greatest_term, greatest_base, front_at, all_up, all_raise, opens}
+use Rattle.cluster_world.specs.Facts.{IsFit}
+use Rattle.cluster_world.proofs.Steps.{raise_steps}
+use Rattle.cluster_world.proofs.Keeping.{NodeKept, InFlight, Kept, up_inside, with_node_same, with_node_other}
+use Rattle.cluster_world.proofs.Worlds.{kept_own, refreshed_kept}
+use Rattle.cluster_world.proofs.Happens.{kept_starts, kept_fails, kept_if_due, set_past}
+
+-- all nodes are followers
+abbrev pub AllFollow : Start → World → Type 0
+AllFollow b w = (k : ℕ) → (node_at b w k).role ≡ Follower
+
+follow_put : (b : Start) (w : World) → AllFollow b w → (k : ℕ) (n : Node) → n.role ≡ Follower → AllFollow b (with_node k n w)
+follow_put b w f zero n e = f
+follow_put b w f (suc place) n e = λ k. ⊎_elim
+    (λ (q : k ≡ suc place). subst (λ (j : ℕ). (node_at b (with_node (suc place) n w) j).role ≡ Follower) (sym q) (⊎_elim
+    (λ (inside : place < length w.nodes). ap (λ (x : Node). x.role) (with_node_same b w place n inside) ∙ e)
+    (λ (past : length w.nodes ≤ place). ap (λ (ns : List Node). (get_or ns place (nobody b)).role) (set_past w.nodes place n past) ∙ f (suc place))
+    (cases_lt place (length w.nodes))))
+    (λ (q : k ≢ suc place). ap (λ (x : Node). x.role) (with_node_other b w place n k q) ∙ f k)
+    (cases_eq k (suc place))
+
+due_follow : (b : Start) (n : Node) → n.role ≡ Follower → (tidied_if_due b n).role ≡ Follower
+due_follow b n e = answer (is_due b n)
+  where
+    answer : (g : Bool) → (cond g (tidied b n) n).role ≡ Follower
+    answer true = e
+    answer false = e
+
+-- a world that opens
+record Opens (b : Start) (m : Machine) (w : World) : Type 0 where
+  kept : Kept b m w
+  follow : AllFollow b w
+
+fails_follow : (b : Start) (w : World) → AllFollow b w → (k : ℕ) (replaced : Bool) → AllFollow b (fails_to_start b k replaced w)
+fails_follow b w f k true = follow_put b w f k (refreshed b false (tidied_if_due b (refreshed b false (node_at b w k)))) refl
+fails_follow b w f k false = follow_put b w f k (refreshed b false (node_at b w k)) refl
+
+all_starts : (b : Start) (m : Machine) (openings : List Opening) (ks : List ℕ) (w : World) → Opens b m w → Opens b m (all_start b openings ks w)
+all_starts b m openings [] w o = o
+all_starts b m openings (k ∷ ks) w o =
+    all_starts b m openings ks (cond (opening_of openings k).starts (starts b k w) (fails_to_start b k (opening_of openings k).replaced w)) (answer (opening_of openings k).starts (opening_of openings k).replaced)
+  where
+    answer : (g r : Bool) → Opens b m (cond g (starts b k w) (fails_to_start b k r w))
+    answer true r = record {
+      kept = kept_starts b m w o.kept k;
+      follow = follow_put b w o.follow k (tidied_if_due b (refreshed b true (node_at b w k))) (due_follow b (refreshed b true (node_at b w k)) refl);
+    }
+    answer false r = record { kept = kept_fails b m w o.kept k r; follow = fails_follow b w o.follow k r }
+
+if_due_follow : (b : Start) (w : World) → AllFollow b w → (k : ℕ) (stop : Option Bool) → AllFollow b (tidies_if_due b k stop w)
+if_due_follow b w f k stop = answer ((node_at b w k).up && is_due b (node_at b w k)) stop
+  where
+    answer : (g : Bool) (stop : Option Bool) → AllFollow b (cond g (tidies b k stop w) w)
+    answer false stop = f
+    answer true None = follow_put b w f k (tidied b (node_at b w k)) (f k)
+    answer true (Some false) = follow_put b w f k (refreshed b false (node_at b w k)) refl
+    answer true (Some true) = follow_put b w f k (refreshed b false (tidied b (node_at b w k))) refl
+
+module _ (b : Start) (m : Machine) (fit : IsFit b m) (openings : List Opening) (term : ℕ) where
+  raise_follow : (w : World) → AllFollow b w → (place : ℕ) (stop : Option ℕ) → AllFollow b (own_event b m (suc place) (RaiseEvent term) stop w)
+  raise_follow w f place (Some j) = follow_put b w f (suc place) _ refl
+  raise_follow w f place None =
+      grown (with_node (suc place) n' w) (follow_put b w f (suc place) n' role) (nat_le (applied_before n n'.base) w.placed && nat_lt w.placed n'.applied) n'.applied (w.history ++ take (n'.applied - w.placed) (drop (w.placed - b.base) n'.whole))
+    where
+      n : Node
+      n = node_at b w (suc place)
+
+      n' : Node
+      n' = ended b m [] (node_at b w (suc place)) (node_at b w (suc place)).held (on (core_of b m (suc place) (node_at b w (suc place))) (RaiseEvent term))
+
+      same_role : (c : CoreParts) (g : Bool) → (quiet (cond g (record c { term = term; vote = 0; leader = 0 }) c)).core.role ≡ c.role
+      same_role c true = refl
+      same_role c false = refl
+
+      role : (on (core_of b m (suc place) (node_at b w (suc place))) (RaiseEvent term)).core.role ≡ Follower
+      role = same_role (core_of b m (suc place) (node_at b w (suc place))) (nat_lt (node_at b w (suc place)).term term) ∙ f (suc place)
+
+      grown : (v : World) → AllFollow b v → (g : Bool) (p : ℕ) (l : List LogEntry) → AllFollow b (cond g (record v { placed = p; history = l }) v)
+      grown v a true p l = a
+      grown v a false p l = a
+
+  all_raises : (ks : List ℕ) (w : World) → Opens b m w → Opens b m (all_raise b m openings term ks w)
+  all_raises [] w o = o
+  all_raises (zero ∷ ks) w o = all_raises ks w o
+  all_raises (suc place ∷ ks) w o =
+      all_raises ks (cond ((node_at b w (suc place)).up && nat_lt (node_at b w (suc place)).term term)
+      (tidies_if_due b (suc place) (opening_of openings (suc place)).tidy_stop (own_event b m (suc place) (RaiseEvent term) (opening_of openings (suc place)).raise_stop w)) w)
+      (answer ((node_at b w (suc place)).up && nat_lt (node_at b w (suc place)).term term) refl)
+    where
+      answer : (g : Bool) → ((node_at b w (suc place)).up && nat_lt (node_at b w (suc place)).term term) ≡ g
+          → Opens b m (cond g (tidies_if_due b (suc place) (opening_of openings (suc place)).tidy_stop (own_event b m (suc place) (RaiseEvent term) (opening_of openings (suc place)).raise_stop w)) w)
+      answer false e = o
+      answer true e =
+          let n = node_at b w (suc place) in
+          let inside = up_inside b w place (and_parts n.up (nat_lt n.term term) e).0 in
+          let v = own_event b m (suc place) (RaiseEvent term) (opening_of openings (suc place)).raise_stop w in
+          let k : Kept b m v = kept_own b m fit w o.kept place inside (RaiseEvent term) (o.follow (suc place))
+          (raise_steps (suc place) n.base n.applied (core_of b m (suc place) n) term (record { same = refl; base = omega arith; commit = (o.kept.nodes place inside).to_commit })) (opening_of openings (suc place)).raise_stop in
+          record {
+            kept = kept_if_due b m v k (suc place) (opening_of openings (suc place)).tidy_stop;
+            follow = if_due_follow b v (raise_follow w o.follow place (opening_of openings (suc place)).raise_stop) (suc place) (opening_of openings (suc place)).tidy_stop;
+          }
+
+-- The history of an opening.
+module _ (b : Start) (m : Machine) (v : World) (h : Kept b m v) where
+  record Front (base : ℕ) (l : List LogEntry) : Type 0 where
+    bound : ℕ
+    decided : Decided b h.spine bound l
+    short : length l ≤ base - b.base
+
+  empty_front : (base : ℕ) → Front base []
+  empty_front base = record { bound = 0; decided = record { how = inl refl }; short = omega arith }
+
+  front_of : (base : ℕ) (ks : List ℕ) → Front base (front_at b v base ks)
+  front_of base [] = empty_front base
+  front_of base (zero ∷ ks) = front_of base ks
+  front_of base (suc place ∷ ks) = answer ((node_at b v (suc place)).up && ((node_at b v (suc place)).base == base)) refl (front_of base ks)
+    where
+      answer : (g : Bool) → ((node_at b v (suc place)).up && ((node_at b v (suc place)).base == base)) ≡ g → Front base (front_at b v base ks)
+          → Front base (cond g (take (base - b.base) (node_at b v (suc place)).whole) (front_at b v base ks))
+      answer false e r = r
+      answer true e r =
+          let n = node_at b v (suc place) in
+          let y = and_parts n.up (n.base == base) e in
+          let ok = h.nodes place (up_inside b v place y.0) in
+          let st = (tied_stops b m.len h.spine (core_of b m (suc place) n) n.whole ok.tied).decided in
+          let q = eqb-true n.base base y.1 in
+          let l = length-take (base - b.base) n.whole in
+          record { bound = n.term; decided = subst (λ (x : ℕ). Decided b h.spine n.term (take (x - b.base) n.whole)) q st; short = omega (arith, l) }
+
+  -- some node that runs has this base
+  HasBase : ℕ → List ℕ → Type 0
+  HasBase base [] = ⊥
+  HasBase base (k ∷ ks) = (((node_at b v k).up ≡ true) × ((node_at b v k).base ≡ base)) ⊎ HasBase base ks
+
+  long_front : (base : ℕ) (ks : List ℕ) → HasBase base ks → (b.base ≤ base) × (length (front_at b v base ks) ≡ base - b.base)
+  unfolding HasBase
+  long_front base [] f = absurd f
+  long_front base (zero ∷ ks) f = ⊎_elim
+      (λ (x : (false ≡ true) × (b.base ≡ base)). absurd (let q : false ≡ true = x.0 in cc))
+      (λ (y : HasBase base ks). long_front base ks y) f
+  long_front base (suc place ∷ ks) f = answer ((node_at b v (suc place)).up && ((node_at b v (suc place)).base == base)) refl (λ y. long_front base ks y)
+    where
+      answer : (g : Bool) → ((node_at b v (suc place)).up && ((node_at b v (suc place)).base == base)) ≡ g → (HasBase base ks → (b.base ≤ base) × (length (front_at b v base ks) ≡ base - b.base))
+          → (b.base ≤ base) × (length (cond g (take (base - b.base) (node_at b v (suc place)).whole) (front_at b v base ks)) ≡ base - b.base)
+      answer true e rest =
+          let n = node_at b v (suc place) in
+          let y = and_parts n.up (n.base == base) e in
+          let ok = h.nodes place (up_inside b v place y.0) in
+          let q = eqb-true n.base base y.1 in
+          let lo = ok.tied.based in let kn = ok.tied.known in let sh = ok.tied.short in
+          (omega (arith, q, lo), length-take-le (base - b.base) n.whole (omega (arith, q, lo, kn, sh)))
+      answer false e rest = ⊎_elim
+          (λ (x : ((node_at b v (suc place)).up ≡ true) × ((node_at b v (suc place)).base ≡ base)).
+          let t : ((node_at b v (suc place)).up && ((node_at b v (suc place)).base == base)) ≡ true =
+          ap (λ (g : Bool). g && ((node_at b v (suc place)).base == base)) x.0 ∙ eq-eqb (node_at b v (suc place)).base base x.1 in
+          absurd (let q : true ≡ false = sym t ∙ e in cc))
+          (λ (y : HasBase base ks). rest y) f
+
+  -- the greatest base is that of a node that runs, if it is not 0
+  greatest_is : (ks : List ℕ) → (greatest_base b v ks ≡ 0) ⊎ HasBase (greatest_base b v ks) ks
+  unfolding HasBase
+  greatest_is [] = inl refl
+  greatest_is (k ∷ ks) = answer (node_at b v k).up refl (greatest_is ks)
+    where
+      answer : (g : Bool) → (node_at b v k).up ≡ g → (greatest_base b v ks ≡ 0) ⊎ HasBase (greatest_base b v ks) ks
+          → (max (cond g (node_at b v k).base 0) (greatest_base b v ks) ≡ 0)
+          ⊎ ((((node_at b v k).up ≡ true) × ((node_at b v k).base ≡ max (cond g (node_at b v k).base 0) (greatest_base b v ks))) ⊎ HasBase (max (cond g (node_at b v k).base 0) (greatest_base b v ks)) ks)
+      answer false e r =
+          let z : greatest_base b v ks ≡ max 0 (greatest_base b v ks) = omega arith in
+          ⊎_elim (λ (x : greatest_base b v ks ≡ 0). inl (sym z ∙ x)) (λ (y : HasBase (greatest_base b v ks) ks). inr (inr (subst (λ (g : ℕ). HasBase g ks) z y))) r
+      answer true e r = ⊎_elim
+          (λ (x : (node_at b v k).base < greatest_base b v ks).
+          let z : greatest_base b v ks ≡ max (node_at b v k).base (greatest_base b v ks) = omega arith in
+          ⊎_elim (λ (y : greatest_base b v ks ≡ 0). absurd (omega arith)) (λ (y : HasBase (greatest_base b v ks) ks). inr (inr (subst (λ (g : ℕ). HasBase g ks) z y))) r)
+          (λ (x : greatest_base b v ks ≤ (node_at b v k).base). inr (inl (e, omega arith)))
+          (cases_lt (node_at b v k).base (greatest_base b v ks))
+
+  pub history_opens : (ks : List ℕ) (all : Bool) → Kept b m (record v { placed = greatest_base b v ks; history = front_at b v (greatest_base b v ks) ks; all_started = all })
+  history_opens ks all =
+      let f = front_of (greatest_base b v ks) ks in
+      let fs = f.short in
+      record {
+        spine = h.spine;
+        reached = h.reached;
+        nodes = h.nodes;
+        flight = λ i d lt. let y = h.flight i d lt in record { from_node = y.from_node; to_node = y.to_node; other = y.other; claim = y.claim; chunk = y.chunk };
+        history = record {
+          bound = f.bound;
+          decided = f.decided;
+          long = ⊎_elim
+              (λ (z : greatest_base b v ks ≡ 0). ⊎_elim (λ (x : 0 < b.base). inr (omega (arith, z, x))) (λ (x : b.base ≤ 0). inl (omega (arith, z, x, fs))) (cases_lt 0 b.base))
+              (λ (y : HasBase (greatest_base b v ks) ks). let l = long_front (greatest_base b v ks) ks y in let l0 = l.0 in let l1 = l.1 in inl (omega (arith, l0, l1)))
+              (greatest_is ks);
+        };
+      }
+
+-- before the nodes start
+get_map : (f : Node → Node) (xs : List Node) (i : ℕ) (d : Node) → i < length xs → get_or (map f xs) i d ≡ f (get_or xs i d)
+get_map f [] i d h = absurd (omega arith)
+get_map f (x ∷ xs) zero d h = refl
+get_map f (x ∷ xs) (suc i) d h = get_map f xs i d (omega arith)
+
+length_map : (f : Node → Node) (xs : List Node) → length (map f xs) ≡ length xs
+length_map f [] = refl
+length_map f (x ∷ xs) = ap suc (length_map f xs)
+
+all_roles : (b : Start) (xs : List Node) (i : ℕ) → (get_or (map (refreshed b false) xs) i (nobody b)).role ≡ Follower
+all_roles b [] i = refl
+all_roles b (x ∷ xs) zero = refl
+all_roles b (x ∷ xs) (suc i) = all_roles b xs i
+
+-- every node stands still
+abbrev pub still : Start → World → World
+still b w = record w { nodes = map (refreshed b false) w.nodes; flight = []; cuts = []; hold = false; takes = []; fires = []; opened = map (log_of b) w.nodes }
+
+stands_still : (b : Start) (m : Machine) (w : World) → Kept b m w → Opens b m (still b w)
+stands_still b m w h = record {
+  kept = record {
+    spine = h.spine;
+    reached = h.reached;
+    nodes = λ q lt. let l = length_map (refreshed b false) w.nodes in let inside : q < length w.nodes = omega (arith, l, lt) in
+        subst (λ (n : Node). NodeKept b m h.spine (suc q) n) (sym (get_map (refreshed b false) w.nodes q (nobody b) inside))
+        (refreshed_kept b m h.spine (suc q) false (node_at b w (suc q)) (h.nodes q inside));
+    flight = All-nil (InFlight b m h.spine (still b w));
+    history = record { bound = h.history.bound; decided = h.history.decided; long = h.history.long };
+  };
+  follow = roles;
+}
+  where
+    roles : (k : ℕ) → (node_at b (still b w) k).role ≡ Follower
+    roles zero = refl
+    roles (suc q) = all_roles b w.nodes q
+
+-- the opening
+pub kept_opens : (b : Start) (m : Machine) → IsFit b m → (openings : List Opening) (w : World) → Kept b m w → Kept b m (opens b m openings w)
+kept_opens b m fit openings w h =
+    let all = ids (nodes_of b) in
+    let v = all_start b openings all (still b w) in
+    let o : Opens b m v = all_starts b m openings all (still b w) (stands_still b m w h) in
+    let u : World = record v { placed = greatest_base b v all; history = front_at b v (greatest_base b v all) all; all_started = all_up b v all } in
+    let k : Kept b m u = history_opens b m v o.kept all (all_up b v all) in
+    let p : Opens b m u = record { kept = k; follow = o.follow } in
+    (all_raises b m fit openings (greatest_term b v all) all u p).kept

@@ -1,0 +1,158 @@
+-- Runs, and the facts.
+use Rattle.std.proofs.Common.{◌≡◌, ◌≢◌, ℕ, zero, suc, ◌-◌, ◌<◌, Bool, true, false, cond, ◌&&◌, ◌==◌, List, [], ◌∷◌, length, take, drop, get_or, replicate, refl, sym, ap, ◌∙◌, subst, arith, inl, take-take}
+use Rattle.std.proofs.lemmas.Bool.{and_parts}
+use Rattle.std.proofs.lemmas.List.Elements.{All-nil, All-drop}
+use Rattle.raft_types.specs.declared.entry.LogEntry.{LogEntry}
+use Rattle.raft_spine.specs.Logs.{IsFront}
+use Rattle.raft_spine.specs.Start.{Start}
+use Rattle.raft_spine.specs.Spine.{begin}
+use Rattle.raft_spine.specs.Decided.{Decided}
+use Rattle.raft_spine.proofs.Sound.{Rooted, Sound}
+use Rattle.raft_spine.proofs.Run.{reached_sound}
+use Rattle.raft_spine.proofs.Grow.{decided_front}
+use Rattle.raft_spine.proofs.Laws.{rooted_match, leader_has, one_history as one_line}
+use Rattle.raft_types.specs.Log.{LogParts, compacted}
+use Rattle.raft_claims.specs.Tied.{whole_log, StoreTied}
+use Rattle.raft_claims.proofs.Stores.{store_starts}
+use Rattle.raft_claims.proofs.Lawful.{begins_tied}
+use Rattle.cluster_world.specs.World.{Machine, Node, World, nodes_of, nobody, fresh_node, last_of, node_at, begin_world}
+use Rattle.cluster_world.specs.Events.{Event, Open, StartNode, FailStart, StopNode, Timeout, Beat, Command, Fire, Deliver, Drop, Tidy, Cut, Mend, Hold, Flow, own_event, may_append, next_entry, starts, fails_to_start, mended, happens, run}
+use Rattle.raft_types.specs.declared.event.CoreEvent.TheVariants.{Command as CommandEvent, Fire as FireEvent}
+use Rattle.cluster_world.specs.Facts.{IsFit, Runs, NoTwoLead, WholeLogsMatch, OneHistory, LeadersHave, WorldFacts, applied_of, committed_of}
+use Rattle.cluster_world.proofs.Keeping.{NodeKept, InFlight, Kept, up_inside}
+use Rattle.cluster_world.proofs.Happens.{kept_starts, kept_fails, kept_stops, kept_if_due, refit, kept_drops, kept_delivers, kept_timeout, kept_beat, kept_command, kept_fire, retake}
+use Rattle.cluster_world.proofs.Opens.{kept_opens}
+
+-- a log compacted at its base is the log
+at_base : (b : Start) (l : List LogEntry) → compacted (whole_log b l) b.base ≡ whole_log b l
+at_base b l = grind arith
+
+module _ (b : Start) (m : Machine) (fit : IsFit b m) where
+  pub kept_happens : (w : World) → Kept b m w → (e : Event) → Kept b m (happens b m w e)
+  kept_happens w h (Open openings) = kept_opens b m fit openings w h
+  kept_happens w h (StartNode k) = answer (node_at b w k).up
+    where
+      answer : (g : Bool) → Kept b m (cond g w (starts b k w))
+      answer true = h
+      answer false = kept_starts b m w h k
+  kept_happens w h (FailStart k replaced) = answer (node_at b w k).up
+    where
+      answer : (g : Bool) → Kept b m (cond g w (fails_to_start b k replaced w))
+      answer true = h
+      answer false = kept_fails b m w h k replaced
+  kept_happens w h (StopNode k) = kept_stops b m w h k
+  kept_happens w h (Timeout k stop) = kept_timeout b m fit w h k stop
+  kept_happens w h (Beat k stop) = kept_beat b m fit w h k stop
+  kept_happens w h (Command zero entry stop) = h
+  kept_happens w h (Command (suc place) entry stop) = answer (may_append b (node_at b w (suc place))) refl
+    where
+      answer : (g : Bool) → may_append b (node_at b w (suc place)) ≡ g
+          → Kept b m (cond g (let v = own_event b m (suc place) (CommandEvent entry) stop w in record v { takes = next_entry b (node_at b w (suc place)) entry ∷ v.takes }) w)
+      answer false e = h
+      answer true e =
+          let v = own_event b m (suc place) (CommandEvent entry) stop w in
+          retake b m fit v (kept_command b m fit w h place entry stop e) (next_entry b (node_at b w (suc place)) entry ∷ v.takes) v.fires
+  kept_happens w h (Fire zero entry stop) = h
+  kept_happens w h (Fire (suc place) entry stop) = answer (may_append b (node_at b w (suc place)) && ((node_at b w (suc place)).applied == last_of b (node_at b w (suc place)))) refl
+    where
+      answer : (g : Bool) → (may_append b (node_at b w (suc place)) && ((node_at b w (suc place)).applied == last_of b (node_at b w (suc place)))) ≡ g
+          → Kept b m (cond g (let v = own_event b m (suc place) (FireEvent entry) stop w in record v { fires = next_entry b (node_at b w (suc place)) entry ∷ v.fires }) w)
+      answer false e = h
+      answer true e =
+          let v = own_event b m (suc place) (FireEvent entry) stop w in
+          let n = node_at b w (suc place) in
+          retake b m fit v (kept_fire b m fit w h place entry stop (and_parts (may_append b n) (n.applied == last_of b n) e).0) v.takes (next_entry b n entry ∷ v.fires)
+  kept_happens w h (Deliver place again stop) = kept_delivers b m fit w h place again stop (drop place w.flight) (All-drop (InFlight b m h.spine w) place w.flight h.flight)
+  kept_happens w h (Drop place) = kept_drops b m w h place
+  kept_happens w h (Tidy k stop) = kept_if_due b m w h k stop
+  kept_happens w h (Cut j k) = refit b m w h w.flight h.flight ((j, k) ∷ w.cuts) w.hold w.takes w.opened w.all_started w.fires
+  kept_happens w h (Mend j k) = refit b m w h w.flight h.flight (mended w.cuts j k) w.hold w.takes w.opened w.all_started w.fires
+  kept_happens w h Hold = refit b m w h w.flight h.flight w.cuts true w.takes w.opened w.all_started w.fires
+  kept_happens w h Flow = refit b m w h w.flight h.flight w.cuts false w.takes w.opened w.all_started w.fires
+
+  pub kept_run : (w : World) → Kept b m w → (es : List Event) → Kept b m (run b m w es)
+  kept_run w h [] = h
+  kept_run w h (e ∷ es) = kept_run (happens b m w e) (kept_happens w h e) es
+
+  begin_node : (k : ℕ) → k ≢ 0 → (count : ℕ) → NodeKept b m (begin b) k (fresh_node b false b.term b.vote b.log b.base count)
+  begin_node k nz count = record {
+    tied = store_starts b m.len (begin b) k (nodes_of b) b.term b.vote (compacted (whole_log b b.log) b.base) (m.len (take (b.base - b.base) b.log)) b.log
+        (subst (λ (l : LogParts). StoreTied b m.len (begin b) k b.term b.vote l (m.len (take (b.base - b.base) b.log)) b.log) (sym (at_base b b.log))
+        (subst (λ (l : List LogEntry). StoreTied b m.len (begin b) k b.term b.vote (whole_log b b.log) (m.len l) b.log)
+        (ap (λ (i : ℕ). take i b.log) (let z : 0 ≡ b.base - b.base = omega arith in z)) (begins_tied b m.len k nz)));
+    from_base = omega arith;
+    to_commit = omega arith;
+    holds = inl refl;
+  }
+
+  same_nodes : (k i : ℕ) (n d : Node) → i < length (replicate k n) → get_or (replicate k n) i d ≡ n
+  same_nodes zero i n d h = absurd (let z : i < 0 = h in (let r : ⊥ = omega (arith, z) in r))
+  same_nodes (suc k) zero n d h = refl
+  same_nodes (suc k) (suc i) n d h = same_nodes k i n d (omega arith)
+
+  pub kept_begin : (count : ℕ) → Kept b m (begin_world b count)
+  kept_begin count = record {
+    spine = begin b;
+    reached = record { start = fit.start; moves = []; can = tt; is = refl };
+    nodes = λ place inside. subst (λ (n : Node). NodeKept b m (begin b) (suc place) n)
+        (sym (same_nodes (nodes_of b) place (fresh_node b false b.term b.vote b.log b.base count) (nobody b) inside)) (begin_node (suc place) (λ z. (let r : ⊥ = omega (arith, z) in r)) count);
+    flight = All-nil (InFlight b m (begin b) (begin_world b count));
+    history = record { bound = 0; decided = record { how = inl refl }; long = inl (omega arith) };
+  }
+
+-- the facts of a world
+module _ (b : Start) (m : Machine) (w : World) (h : Kept b m w) where
+  sound : Sound b h.spine
+  sound = reached_sound b h.spine h.reached
+
+  -- a running node
+  running : (k : ℕ) → Runs b w k → NodeKept b m h.spine k (node_at b w k)
+  running zero r = absurd (let q : false ≡ true = r in cc)
+  running (suc place) r = h.nodes place (up_inside b w place r)
+
+  one_leader : NoTwoLead b w
+  one_leader j k x y e =
+      let a = running j x.runs in let c = running k y.runs in
+      sym ((a.tied.leading x.role).leads) ∙ (ap h.spine.leader e ∙ (c.tied.leading y.role).leads)
+
+  decided_applied : (k : ℕ) → Runs b w k → Decided b h.spine (node_at b w k).term (applied_of b (node_at b w k))
+  decided_applied k r =
+      let a = running k r in let n = node_at b w k in let tc = a.to_commit in
+      subst (λ (l : List LogEntry). Decided b h.spine n.term l) (take-take (n.applied - b.base) (n.commit - b.base) n.whole (omega arith))
+      (decided_front b h.spine n.term (n.applied - b.base) (take (n.commit - b.base) n.whole) a.tied.decided)
+
+  history_one : OneHistory b w
+  history_one = record {
+    of_history = λ k r. one_line b h.spine sound (node_at b w k).term h.history.bound (applied_of b (node_at b w k)) w.history (decided_applied k r) h.history.decided;
+    of_nodes = λ j k r q. one_line b h.spine sound (node_at b w j).term (node_at b w k).term (applied_of b (node_at b w j)) (applied_of b (node_at b w k)) (decided_applied j r) (decided_applied k q);
+  }
+
+  matching : WholeLogsMatch b w
+  matching zero k i lt l2 e = absurd (let z : i < 0 = lt in (let r : ⊥ = omega (arith, z) in r))
+  matching (suc p) zero i lt l2 e = absurd (let z : i < 0 = l2 in (let r : ⊥ = omega (arith, z) in r))
+  matching (suc p) (suc q) i lt l2 e =
+      let x = h.nodes p (inside p i lt) in let y = h.nodes q (inside q i l2) in
+      rooted_match b h.spine (h.spine.term (suc p)) (h.spine.term (suc q)) i (node_at b w (suc p)).whole (node_at b w (suc q)).whole
+      (subst (λ (l : List LogEntry). Rooted b h.spine.leader h.spine.leader_log (h.spine.term (suc p)) l) x.tied.log (sound.logs (suc p)))
+      (subst (λ (l : List LogEntry). Rooted b h.spine.leader h.spine.leader_log (h.spine.term (suc q)) l) y.tied.log (sound.logs (suc q))) lt l2 e
+    where
+      inside : (place i : ℕ) → i < length (node_at b w (suc place)).whole → place < length w.nodes
+      inside place i lt = there w.nodes place lt
+        where
+          there : (xs : List Node) (q : ℕ) → i < length (get_or xs q (nobody b)).whole → q < length xs
+          there [] q lt = absurd (let z : i < 0 = lt in (let r : ⊥ = omega (arith, z) in r))
+          there (x ∷ xs) zero lt = omega arith
+          there (x ∷ xs) (suc q) lt = let r = there xs q lt in omega (arith, r)
+
+  leaders : LeadersHave b w
+  leaders j k x r le =
+      let a = running j x.runs in let c = running k r in
+      let led = (a.tied.leading x.role).leads in
+      let nz = a.tied.is_node in
+      let own = sound.own_log j nz (ap h.spine.leader a.tied.term ∙ led) in
+      let its : h.spine.leader_log (node_at b w j).term ≡ (node_at b w j).whole = ap h.spine.leader_log (sym a.tied.term) ∙ (sym own ∙ a.tied.log) in
+      subst (λ (l : List LogEntry). IsFront (committed_of b (node_at b w k)) l) its
+      (leader_has b h.spine sound (node_at b w k).term (node_at b w j).term (committed_of b (node_at b w k)) c.tied.decided le (λ z. nz (sym led ∙ z)))
+
+  pub facts : WorldFacts b w
+  facts = record { one_leader = one_leader; logs_match = matching; one_history = history_one; leaders_have = leaders }

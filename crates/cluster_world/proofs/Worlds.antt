@@ -1,0 +1,179 @@
+-- Every event of a world keeps what holds of it.
+use Rattle.std.proofs.Common.{◌≡◌, ℕ, zero, suc, ◌+◌, ◌-◌, ◌<◌, ◌≤◌, min, Bool, true, false, not, cond, ◌&&◌, ◌==◌, List, [], length, take, Option, Some, None, refl, sym, ap, ◌∙◌, subst, arith, ◌⊎◌, inl, inr, ⊎_elim, take_all, length-take-le}
+use Rattle.std.proofs.lemmas.Bool.{eqb-true, and_parts}
+use Rattle.raft_types.specs.declared.entry.LogEntry.{LogEntry}
+use Rattle.raft_types.specs.declared.limits.TheConstants.{MAX_CHUNK}
+use Rattle.raft_types.specs.declared.event.CoreEvent.{CoreEvent}
+use Rattle.raft_types.specs.declared.event.CoreEvent.TheVariants.{Heard}
+use Rattle.raft_types.specs.declared.message.Body.{Body}
+use Rattle.raft_types.specs.declared.message.Body.TheVariants.{Vote, VoteReply, Append, AppendReply, Chunk, ChunkReply}
+use Rattle.raft_types.specs.Log.{LogParts, compacted}
+use Rattle.raft_types.specs.Step.{on}
+use Rattle.raft_types.proofs.Compacts.{compacts as stands_for}
+use Rattle.raft_spine.specs.Logs.{IsFront}
+use Rattle.raft_spine.specs.Start.{Start}
+use Rattle.raft_spine.specs.Spine.{Spine}
+use Rattle.raft_spine.specs.Moves.{moved_all}
+use Rattle.raft_spine.proofs.Sound.{Sound}
+use Rattle.raft_spine.proofs.Run.{reached_sound}
+use Rattle.raft_spine.proofs.Grow.{moves_grow}
+use Rattle.raft_spine.proofs.Laws.{one_history}
+use Rattle.raft_claims.specs.Claims.{ChunkClaim, Claim}
+use Rattle.raft_claims.specs.Tied.{whole_log, Tied}
+use Rattle.raft_claims.specs.Events.{AskedOf, Asked}
+use Rattle.raft_claims.proofs.Stores.{tied_stops, store_starts}
+use Rattle.raft_claims.proofs.EventTurns.{event_turn}
+use Rattle.raft_claims.proofs.EventStops.{event_stop}
+use Rattle.raft_claims.proofs.Lawful.{compacts_tied}
+use Rattle.cluster_world.specs.World.{Machine, Held, Node, World, nodes_of, log_of, core_of, refreshed, node_at}
+use Rattle.cluster_world.specs.Node.{needs, with_chunk, arrived, told_of, tidied}
+use Rattle.cluster_world.specs.Events.{own_event, node_event, is_cut, arrives}
+use Rattle.cluster_world.specs.Facts.{IsFit}
+use Rattle.cluster_world.proofs.Steps.{Steps, heard_steps}
+use Rattle.cluster_world.proofs.Keeping.{HeldOf, NodeKept, ChunkOf, InFlight, Kept, up_inside, held_stays}
+use Rattle.cluster_world.proofs.NodeEvents.{kept_ended, kept_stopped}
+
+module _ (b : Start) (m : Machine) (fit : IsFit b m) where
+  -- an event of a node, with the whole log of a sender
+  pub kept_by : (w : World) → (h : Kept b m w) → (place : ℕ) → place < length w.nodes → (sender : List LogEntry) (held : Held) (event : CoreEvent)
+      → Asked b m.len h.spine (core_of b m (suc place) (node_at b w (suc place))) sender event
+      → Steps (suc place) (node_at b w (suc place)).base (node_at b w (suc place)).applied (on (core_of b m (suc place) (node_at b w (suc place))) event)
+      → (held.count ≡ 0) ⊎ HeldOf b m.len h.spine held → (stop : Option ℕ) → Kept b m (node_event b m (suc place) sender held event stop w)
+  kept_by w h place inside sender held event a st hk (Some j) =
+      let n = node_at b w (suc place) in
+      kept_stopped b m w h place inside n refl sender event j (event_stop b m.len fit.sizes h.spine h.reached (core_of b m (suc place) n) n.whole (h.nodes place inside).tied fit.members sender event a j) st
+  kept_by w h place inside sender held event a st hk None =
+      let n = node_at b w (suc place) in
+      let q = event_turn b m.len fit.sizes h.spine h.reached (core_of b m (suc place) n) n.whole (h.nodes place inside).tied fit.members sender event a in
+      kept_ended b m w h place inside n refl sender event held q st
+      (held_stays b m.len h.spine (moved_all q.moves h.spine) (moves_grow b h.reached.start.low h.spine (reached_sound b h.spine h.reached) q.moves q.can) held hk)
+
+  -- an event of a node's own
+  pub kept_own : (w : World) → (h : Kept b m w) → (place : ℕ) → place < length w.nodes → (event : CoreEvent)
+      → Asked b m.len h.spine (core_of b m (suc place) (node_at b w (suc place))) [] event
+      → Steps (suc place) (node_at b w (suc place)).base (node_at b w (suc place)).applied (on (core_of b m (suc place) (node_at b w (suc place))) event)
+      → (stop : Option ℕ) → Kept b m (own_event b m (suc place) event stop w)
+  kept_own w h place inside event a st stop = kept_by w h place inside [] (node_at b w (suc place)).held event a st (h.nodes place inside).holds stop
+
+-- a snapshot of which these bytes are held is the chunk's, so that they are no more than it has
+module _ (b : Start) (len : List LogEntry → ℕ) (s : Spine) (sound : Sound b s) (h : Held) (ok : (h.count ≡ 0) ⊎ HeldOf b len s h) (from t i bt off total : ℕ) (c : ChunkClaim b len s from t i bt total) where
+  abbrev had : ℕ
+  had = cond ((h.index == i) && (h.base_term == bt)) h.count 0
+
+  had_few : (g : Bool) → ((h.index == i) && (h.base_term == bt)) ≡ g → cond g h.count 0 ≤ total
+  had_few false e = omega arith
+  had_few true e = ⊎_elim
+      (λ (z : h.count ≡ 0). let r : h.count ≤ total = omega arith in r)
+      (λ (y : HeldOf b len s h).
+      let p = take c.n (s.leader_log t) in
+      let lp = length-take-le c.n (s.leader_log t) c.long in
+      let ix = eqb-true h.index i (and_parts (h.index == i) (h.base_term == bt) e).0 in
+      let ci = c.index in let ya = y.at in let fw = y.few in let sz = c.size in
+      let long : length y.front ≡ length p = omega (arith, lp, ix, ci, ya) in
+      let same : y.front ≡ p = ⊎_elim
+      (λ (x : IsFront y.front p). sym x ∙ take_all (length y.front) p (omega (arith, long)))
+      (λ (x : IsFront p y.front). sym (take_all (length p) y.front (omega (arith, long))) ∙ x)
+      (one_history b s sound y.bound t y.front p y.decided c.decided) in
+      let z = ap len same in
+      let r : h.count ≤ total = omega (arith, fw, z, sz) in r)
+      ok
+
+  pub chunk_few : (with_chunk h i bt off total).count ≤ total
+  chunk_few = let f = had_few ((h.index == i) && (h.base_term == bt)) refl in answer (cond ((h.index == i) && (h.base_term == bt)) h.count 0) f
+    where
+      answer : (x : ℕ) → x ≤ total → cond (off == x) (x + min MAX_CHUNK (total - off)) x ≤ total
+      answer x f = test (off == x) refl
+        where
+          test : (g : Bool) → (off == x) ≡ g → cond g (x + min MAX_CHUNK (total - off)) x ≤ total
+          test true e = let q = eqb-true off x e in (let r : x + min MAX_CHUNK (total - off) ≤ total = omega (arith, q, f) in r)
+          test false e = f
+
+  pub chunk_held : HeldOf b len s (with_chunk h i bt off total)
+  chunk_held =
+      let lp = length-take-le c.n (s.leader_log t) c.long in let ci = c.index in let f = chunk_few in let sz = c.size in
+      record { bound = t; front = take c.n (s.leader_log t); decided = c.decided; at = omega (arith, lp, ci); few = omega (arith, f, sz) }
+
+module _ (b : Start) (m : Machine) (fit : IsFit b m) (w : World) (h : Kept b m w) where
+  sound : Sound b h.spine
+  sound = reached_sound b h.spine h.reached
+
+  arrived_holds : (k : ℕ) (n : Node) → NodeKept b m h.spine k n → (from to : ℕ) (body : Body) → Claim b m.len h.spine from to body
+      → ((arrived n body).count ≡ 0) ⊎ HeldOf b m.len h.spine (arrived n body)
+  arrived_holds k n ok from to (Vote t li lt) c = ok.holds
+  arrived_holds k n ok from to (VoteReply t r) c = ok.holds
+  arrived_holds k n ok from to (Append t pi pt es mc) c = ok.holds
+  arrived_holds k n ok from to (AppendReply t r i) c = ok.holds
+  arrived_holds k n ok from to (Chunk t i bt off total bytes) c = answer (needs n t i)
+    where
+      answer : (g : Bool) → ((cond g (with_chunk n.held i bt off total) n.held).count ≡ 0) ⊎ HeldOf b m.len h.spine (cond g (with_chunk n.held i bt off total) n.held)
+      answer true = inr (chunk_held b m.len h.spine sound n.held ok.holds from t i bt off total c)
+      answer false = ok.holds
+  arrived_holds k n ok from to (ChunkReply t i off) c = ok.holds
+
+  asked_of : (k : ℕ) (n : Node) → NodeKept b m h.spine k n → (from to : ℕ) (sender : Node) (body : Body) → Claim b m.len h.spine from to body → ChunkOf b h.spine sender body
+      → AskedOf b h.spine sender.whole (told_of n body) body
+  asked_of k n ok from to sender (Vote t li lt) c x = tt
+  asked_of k n ok from to sender (VoteReply t r) c x = tt
+  asked_of k n ok from to sender (Append t pi pt es mc) c x = tt
+  asked_of k n ok from to sender (AppendReply t r i) c x = tt
+  asked_of k n ok from to sender (Chunk t i bt off total bytes) c x = record { held_within = answer (needs n t i); same = x.1 }
+    where
+      answer : (g : Bool) → cond g (with_chunk n.held i bt off total).count 0 ≤ total
+      answer true = chunk_few b m.len h.spine sound n.held ok.holds from t i bt off total c
+      answer false = omega arith
+  asked_of k n ok from to sender (ChunkReply t i off) c x = tt
+
+  -- a message arrives
+  pub kept_arrives : (from to : ℕ) (body : Body) → InFlight b m h.spine w (record { from = from; to = to; body = body }) → (stop : Option ℕ)
+      → Kept b m (arrives b m (record { from = from; to = to; body = body }) stop w)
+  kept_arrives from zero body f stop = absurd (let z = f.to_node in omega (arith, z))
+  kept_arrives from (suc place) body f stop = answer ((node_at b w (suc place)).up && not (is_cut w.cuts from (suc place))) refl
+    where
+      n : Node
+      n = node_at b w (suc place)
+
+      answer : (g : Bool) → ((node_at b w (suc place)).up && not (is_cut w.cuts from (suc place))) ≡ g
+          → Kept b m (cond g (node_event b m (suc place) (node_at b w from).whole (arrived (node_at b w (suc place)) body)
+          (Heard (record { from = from; to = suc place; body = body }) (node_at b w (suc place)).applied (told_of (node_at b w (suc place)) body)) stop w) w)
+      answer false e = h
+      answer true e =
+          let up = (and_parts (node_at b w (suc place)).up (not (is_cut w.cuts from (suc place))) e).0 in
+          let inside = up_inside b w place up in
+          let ok = h.nodes place inside in
+          let fn = f.from_node in
+          kept_by b m fit w h place inside (node_at b w from).whole (arrived (node_at b w (suc place)) body)
+          (Heard (record { from = from; to = suc place; body = body }) (node_at b w (suc place)).applied (told_of (node_at b w (suc place)) body))
+          (record {
+            from_node = λ z. (let r : ⊥ = omega (arith, z, fn) in r);
+            from_other = f.other;
+            to_this = refl;
+            claim = f.claim;
+            from_base = ok.from_base;
+            to_commit = ok.to_commit;
+            of_sender = asked_of (suc place) (node_at b w (suc place)) ok from (suc place) (node_at b w from) body f.claim f.chunk;
+          })
+          (heard_steps (suc place) (node_at b w (suc place)).base (node_at b w (suc place)).applied (core_of b m (suc place) (node_at b w (suc place))) (record { from = from; to = suc place; body = body })
+          (told_of (node_at b w (suc place)) body) fn f.other ok.from_base (record { same = refl; base = omega arith; commit = ok.to_commit }))
+          (arrived_holds (suc place) (node_at b w (suc place)) ok from (suc place) body f.claim) stop
+
+-- a node on its store, just started or standing still
+pub refreshed_kept : (b : Start) (m : Machine) (s : Spine) (k : ℕ) (up : Bool) (n : Node) → NodeKept b m s k n → NodeKept b m s k (refreshed b up n)
+refreshed_kept b m s k up n ok = record {
+  tied = store_starts b m.len s k (nodes_of b) n.term n.vote (log_of b n) (m.len (take (n.base - b.base) n.whole)) n.whole (tied_stops b m.len s (core_of b m k n) n.whole ok.tied);
+  from_base = omega arith;
+  to_commit = omega arith;
+  holds = inl refl;
+}
+
+-- a node that put a snapshot in place of items
+pub tidied_kept : (b : Start) (m : Machine) (s : Spine) (k : ℕ) (n : Node) → NodeKept b m s k n → NodeKept b m s k (tidied b n)
+tidied_kept b m s k n ok =
+    let t = compacts_tied b m.len s n.whole (core_of b m k n) n.applied ok.tied ok.from_base ok.to_commit in
+    let lo = ok.tied.based in let kn = ok.tied.known in let sh = ok.tied.short in let fb = ok.from_base in let tc = ok.to_commit in
+    let log : compacted (log_of b n) n.applied ≡ log_of b (tidied b n) = (stands_for (whole_log b n.whole) n.base lo (omega arith)).again n.applied fb (omega arith) in
+    record {
+      tied = subst (λ (l : LogParts). Tied b m.len s (record (core_of b m k (tidied b n)) { log = l }) n.whole) log t;
+      from_base = omega arith;
+      to_commit = ok.to_commit;
+      holds = ok.holds;
+    }

@@ -1,0 +1,23 @@
+-- By the lemmas.
+use Rattle.raft_spine.specs.Start.{Start}
+use Rattle.std.proofs.Common.{ℕ, List}
+use Rattle.cluster_world.specs.World.{Machine, begin_world}
+use Rattle.cluster_world.specs.Events.{Event, run}
+use Rattle.cluster_world.specs.Facts.{IsFit, WorldFacts}
+use Rattle.cluster_world.proofs.Runs.{kept_begin, kept_run, facts}
+use Rattle.cluster_world.proofs.world_facts.Goals as goal
+
+of_run : (b : Start) (m : Machine) (count : ℕ) (es : List Event) → IsFit b m → WorldFacts b (run b m (begin_world b count) es)
+of_run b m count es fit = facts b m (run b m (begin_world b count) es) (kept_run b m fit (begin_world b count) (kept_begin b m fit count) es)
+
+pub returns-clause-one_leader : goal.returns-clause-one_leader
+returns-clause-one_leader c = λ b m count es fit. (of_run b m count es fit).one_leader
+
+pub returns-clause-logs_match : goal.returns-clause-logs_match
+returns-clause-logs_match c = λ b m count es fit. (of_run b m count es fit).logs_match
+
+pub returns-clause-one_history : goal.returns-clause-one_history
+returns-clause-one_history c = λ b m count es fit. (of_run b m count es fit).one_history
+
+pub returns-clause-leaders_have : goal.returns-clause-leaders_have
+returns-clause-leaders_have c = λ b m count es fit. (of_run b m count es fit).leaders_have

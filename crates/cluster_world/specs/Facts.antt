@@ -1,0 +1,63 @@
+-- The facts of every world that events reach.
+use Rattle.std.specs.Prelude.{◌≡◌, ◌⊎◌, ℕ, suc, ◌-◌, ◌<◌, ◌≤◌, true, List, length, take}
+use Rattle.raft_types.specs.declared.entry.LogEntry.{LogEntry}
+use Rattle.raft_types.specs.declared.state.Role.TheVariants.{Leader}
+use Rattle.raft_types.specs.Log.{term_at}
+use Rattle.raft_types.specs.Quorum.{ids}
+use Rattle.raft_spine.specs.Logs.{SameFirst, IsFront}
+use Rattle.raft_spine.specs.Start.{Start, IsStart}
+use Rattle.cluster_world.specs.World.{Machine, Node, World, nodes_of, node_at}
+
+-- what the nodes begin with: one store, of nodes with the numbers from 1 on, and a machine whose snapshots have at least one byte
+pub record IsFit (b : Start) (m : Machine) : Type 0 where
+  pub start : IsStart b
+  pub members : b.members ≡ ids (nodes_of b)
+  pub sizes : (l : List LogEntry) → 1 ≤ m.len l
+
+-- node k runs
+abbrev pub Runs : Start → World → ℕ → Type 0
+Runs b w k = (node_at b w k).up ≡ true
+
+-- node k runs and leads its term
+pub record LeadsNow (b : Start) (w : World) (k : ℕ) : Type 0 where
+  pub runs : Runs b w k
+  pub role : (node_at b w k).role ≡ Leader
+
+-- two nodes that lead in one term are one
+abbrev pub NoTwoLead : Start → World → Type 0
+NoTwoLead b w = (j k : ℕ) → LeadsNow b w j → LeadsNow b w k → (node_at b w j).term ≡ (node_at b w k).term → j ≡ k
+
+-- two whole logs that have an entry of one term at one index are the same up to it
+abbrev pub LogsMatch : List LogEntry → List LogEntry → Type 0
+LogsMatch l m = (i : ℕ) → i < length l → i < length m → term_at l i ≡ term_at m i → SameFirst (suc i) l m
+
+abbrev pub WholeLogsMatch : Start → World → Type 0
+WholeLogsMatch b w = (j k : ℕ) → LogsMatch (node_at b w j).whole (node_at b w k).whole
+
+-- what a node has applied, and what it knows to be committed, from the base of the start on
+abbrev pub applied_of : Start → Node → List LogEntry
+applied_of b n = take (n.applied - b.base) n.whole
+
+abbrev pub committed_of : Start → Node → List LogEntry
+committed_of b n = take (n.commit - b.base) n.whole
+
+-- one of two lists is a front of the other
+abbrev pub IsOneLine : List LogEntry → List LogEntry → Type 0
+IsOneLine p q = IsFront p q ⊎ IsFront q p
+
+-- of what a running node has applied and the history one is a front of the other, and so it is of what two running nodes have applied
+pub record OneHistory (b : Start) (w : World) : Type 0 where
+  pub of_history : (k : ℕ) → Runs b w k → IsOneLine (applied_of b (node_at b w k)) w.history
+  pub of_nodes : (j k : ℕ) → Runs b w j → Runs b w k → IsOneLine (applied_of b (node_at b w j)) (applied_of b (node_at b w k))
+
+-- who leads has all that running nodes of no later term know to be committed
+abbrev pub LeadersHave : Start → World → Type 0
+LeadersHave b w =
+    (j k : ℕ) → LeadsNow b w j → Runs b w k → (node_at b w k).term ≤ (node_at b w j).term → IsFront (committed_of b (node_at b w k)) (node_at b w j).whole
+
+-- the facts
+pub record WorldFacts (b : Start) (w : World) : Type 0 where
+  pub one_leader : NoTwoLead b w
+  pub logs_match : WholeLogsMatch b w
+  pub one_history : OneHistory b w
+  pub leaders_have : LeadersHave b w
