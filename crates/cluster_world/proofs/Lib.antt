@@ -5,3 +5,4 @@ pub mod Worlds
 pub mod Happens
 pub mod Opens
 pub mod Runs
+pub mod Whole

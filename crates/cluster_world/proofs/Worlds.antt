@@ -97,7 +97,7 @@ module _ (b : Start) (m : Machine) (fit : IsFit b m) (w : World) (h : Kept b m w
   sound : Sound b h.spine
   sound = reached_sound b h.spine h.reached
 
-  arrived_holds : (k : ℕ) (n : Node) → NodeKept b m h.spine k n → (from to : ℕ) (body : Body) → Claim b m.len h.spine from to body
+  pub arrived_holds : (k : ℕ) (n : Node) → NodeKept b m h.spine k n → (from to : ℕ) (body : Body) → Claim b m.len h.spine from to body
       → ((arrived n body).count ≡ 0) ⊎ HeldOf b m.len h.spine (arrived n body)
   arrived_holds k n ok from to (Vote t li lt) c = ok.holds
   arrived_holds k n ok from to (VoteReply t r) c = ok.holds
@@ -110,7 +110,7 @@ module _ (b : Start) (m : Machine) (fit : IsFit b m) (w : World) (h : Kept b m w
       answer false = ok.holds
   arrived_holds k n ok from to (ChunkReply t i off) c = ok.holds
 
-  asked_of : (k : ℕ) (n : Node) → NodeKept b m h.spine k n → (from to : ℕ) (sender : Node) (body : Body) → Claim b m.len h.spine from to body → ChunkOf b h.spine sender body
+  pub asked_of : (k : ℕ) (n : Node) → NodeKept b m h.spine k n → (from to : ℕ) (sender : Node) (body : Body) → Claim b m.len h.spine from to body → ChunkOf b h.spine sender body
       → AskedOf b h.spine sender.whole (told_of n body) body
   asked_of k n ok from to sender (Vote t li lt) c x = tt
   asked_of k n ok from to sender (VoteReply t r) c x = tt

@@ -1,12 +1,17 @@
 -- The facts of every world that events reach.
-use Rattle.std.specs.Prelude.{◌≡◌, ◌⊎◌, ℕ, suc, ◌-◌, ◌<◌, ◌≤◌, true, List, length, take}
+use Rattle.std.specs.Prelude.{◌≡◌, ◌⊎◌, ℕ, suc, ◌-◌, ◌<◌, ◌≤◌, true, ⊤, List, [], length, take, get_or}
 use Rattle.raft_types.specs.declared.entry.LogEntry.{LogEntry}
-use Rattle.raft_types.specs.declared.state.Role.TheVariants.{Leader}
+use Rattle.raft_types.specs.declared.event.CoreEvent.{CoreEvent}
+use Rattle.raft_types.specs.declared.event.CoreEvent.TheVariants.{Timeout, Beat, Raise, Command, Fire, Heard}
+use Rattle.raft_types.specs.declared.message.Message.{Message}
+use Rattle.raft_types.specs.declared.state.Role.TheVariants.{Follower, Leader}
 use Rattle.raft_types.specs.Log.{term_at}
 use Rattle.raft_types.specs.Quorum.{ids}
+use Rattle.raft_types.specs.Step.{on}
 use Rattle.raft_spine.specs.Logs.{SameFirst, IsFront}
 use Rattle.raft_spine.specs.Start.{Start, IsStart}
-use Rattle.cluster_world.specs.World.{Machine, Node, World, nodes_of, node_at}
+use Rattle.cluster_world.specs.World.{Machine, Held, Node, World, nodes_of, core_of, node_at}
+use Rattle.cluster_world.specs.Node.{arrived, told_of, ended}
 
 -- what the nodes begin with: one store, of nodes with the numbers from 1 on, and a machine whose snapshots have at least one byte
 pub record IsFit (b : Start) (m : Machine) : Type 0 where
@@ -61,3 +66,30 @@ pub record WorldFacts (b : Start) (w : World) : Type 0 where
   pub logs_match : WholeLogsMatch b w
   pub one_history : OneHistory b w
   pub leaders_have : LeadersHave b w
+
+-- a compacted log stands for the whole one: the core that reads the whole log of a node from its base up, after an event that the
+-- node ends, is the core that the step gives
+abbrev pub StandsFor : Start → Machine → ℕ → List LogEntry → Node → Held → CoreEvent → Type 0
+StandsFor b m k sender n held event = core_of b m k (ended b m sender n held (on (core_of b m k n) event)) ≡ (on (core_of b m k n) event).core
+
+-- an event that node k may have of its own
+abbrev pub MayHave : Node → CoreEvent → Type 0
+MayHave n Timeout = ⊤
+MayHave n Beat = n.role ≡ Leader
+MayHave n (Raise term) = n.role ≡ Follower
+MayHave n (Command entry) = n.role ≡ Leader
+MayHave n (Fire entry) = n.role ≡ Leader
+MayHave n (Heard message applied held) = ⊥
+
+-- a message that is in flight, at some place
+pub record IsInFlight (w : World) (x : Message) : Type 0 where
+  pub place : ℕ
+  pub there : place < length w.flight
+  pub is : (d : Message) → get_or w.flight place d ≡ x
+
+-- so it is in each running node's own events, and where a message in flight arrives at one
+pub record StandsForWhole (b : Start) (m : Machine) (w : World) : Type 0 where
+  pub own : (k : ℕ) (event : CoreEvent) → Runs b w k → MayHave (node_at b w k) event → StandsFor b m k [] (node_at b w k) (node_at b w k).held event
+  pub arrives : (x : Message) → Runs b w x.to → IsInFlight w x
+      → StandsFor b m x.to (node_at b w x.from).whole (node_at b w x.to) (arrived (node_at b w x.to) x.body)
+      (Heard x (node_at b w x.to).applied (told_of (node_at b w x.to) x.body))

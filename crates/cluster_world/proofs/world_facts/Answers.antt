@@ -5,6 +5,7 @@ use Rattle.cluster_world.specs.World.{Machine, begin_world}
 use Rattle.cluster_world.specs.Events.{Event, run}
 use Rattle.cluster_world.specs.Facts.{IsFit, WorldFacts}
 use Rattle.cluster_world.proofs.Runs.{kept_begin, kept_run, facts}
+use Rattle.cluster_world.proofs.Whole.{stands_for_whole}
 use Rattle.cluster_world.proofs.world_facts.Goals as goal
 
 of_run : (b : Start) (m : Machine) (count : ℕ) (es : List Event) → IsFit b m → WorldFacts b (run b m (begin_world b count) es)
@@ -21,3 +22,6 @@ returns-clause-one_history c = λ b m count es fit. (of_run b m count es fit).on
 
 pub returns-clause-leaders_have : goal.returns-clause-leaders_have
 returns-clause-leaders_have c = λ b m count es fit. (of_run b m count es fit).leaders_have
+
+pub returns-clause-stands_for_whole : goal.returns-clause-stands_for_whole
+returns-clause-stands_for_whole c = λ b m count es fit. stands_for_whole b m fit (run b m (begin_world b count) es) (kept_run b m fit (begin_world b count) (kept_begin b m fit count) es)
