@@ -1,5 +1,5 @@
 -- Which nodes of a tree fail, along a walk over all of them.
-use Rattle.std.proofs.Common.{◌≡◌, ℕ, ◌+◌, ◌<◌, Bool, true, false, cond, not, ◌||◌, List, [], ◌∷◌, ◌++◌, length, get_or, drop, map, refl, sym, ap, ◌∙◌, append_assoc, arith, Option, Some, None, Bor}
+use Rattle.std.proofs.Common.{◌≡◌, ℕ, ◌+◌, ◌<◌, Bool, true, false, cond, not, ◌||◌, List, [], ◌∷◌, ◌++◌, length, get_or, drop, map, refl, sym, ap, subst, ◌∙◌, append_assoc, arith, Option, Some, None, Bor}
 use Rattle.std.specs.Prelude.{is_some}
 use Rattle.std.specs.List.{filter}
 use Rattle.std.specs.Option.{option_map, option_copied}
@@ -101,3 +101,8 @@ amid-stays T paths after x next low amid =
 -- fewer are ahead
 pub ahead-less : (T : Tree) (after : Option Path) (x : Path) → IsNext path_cmp (Stands T) after (Some x) → length (ahead T (Some x)) < length (ahead T after)
 ahead-less T after x next = let step = walk-goes_on T after x next in omega (arith, ap length step.2)
+
+-- what comes next, told of a path that was lent and of an answer that was taken apart
+pub came-next : (T : Tree) (a b : Option (List NameText)) (o p : Option (List NameText)) → a ≡ b → o ≡ p → IsNext path_cmp (Stands T) a o → IsNext path_cmp (Stands T) b p
+came-next T a b o p lent apart next =
+    subst (λ (c : Option (List NameText)). IsNext path_cmp (Stands T) b c) apart (subst (λ (c : Option (List NameText)). IsNext path_cmp (Stands T) c o) lent next)
