@@ -1,5 +1,9 @@
+pub mod Anew
 pub mod EightBytes
+pub mod OnStores
 pub mod Pushing
+pub mod Rising
 pub mod Spelling
 pub mod Steps
 pub mod Unspelling
+pub mod Voting

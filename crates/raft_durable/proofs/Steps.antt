@@ -14,13 +14,13 @@ use Rattle.raft_durable.specs.Stores.{start, is_waiting, may_vote, may_put, took
 use Rattle.raft_durable.specs.Laws.{Fits, CanVote, CanPut, Follow, after}
 use Rattle.raft_durable.proofs.Spelling.{spelled}
 
-le_true : (a b : ℕ) → a ≤ b → nat_le a b ≡ true
+pub le_true : (a b : ℕ) → a ≤ b → nat_le a b ≡ true
 le_true a b h = grind arith
 
 lt_true : (a b : ℕ) → a < b → nat_lt a b ≡ true
 lt_true a b h = grind arith
 
-and_true : (p q : Bool) → p ≡ true → q ≡ true → (p && q) ≡ true
+pub and_true : (p q : Bool) → p ≡ true → q ≡ true → (p && q) ≡ true
 and_true true q h w = w
 and_true false q h w = absurd cc
 
@@ -29,15 +29,15 @@ and_false true = refl
 and_false false = refl
 
 -- a reading that keeps this
-abbrev reading : Kept → Bool → Bool → Reading
+abbrev pub reading : Kept → Bool → Bool → Reading
 reading k started voted = record { kept = k; started = started; voted = voted }
 
 -- items that were read and are a store
-record Read (bytes : List (List ℕ)) (k : Kept) : Type 0 where
-  started : Bool
-  voted : Bool
-  are : took_all start bytes ≡ Some (reading k started voted)
-  ready : is_waiting (reading k started voted) ≡ false
+pub record Read (bytes : List (List ℕ)) (k : Kept) : Type 0 where
+  pub started : Bool
+  pub voted : Bool
+  pub are : took_all start bytes ≡ Some (reading k started voted)
+  pub ready : is_waiting (reading k started voted) ≡ false
 
 ended : (bytes : List (List ℕ)) (k : Kept) (r : Reading) (b : Bool) → took_all start bytes ≡ Some r → is_waiting r ≡ b → cond b None (Some r.kept) ≡ Some k → Read bytes k
 ended bytes k r true are waiting is = absurd cc
@@ -54,10 +54,10 @@ read_by : (bytes : List (List ℕ)) (k : Kept) (o : Option Reading) → took_all
 read_by bytes k None are is = absurd cc
 read_by bytes k (Some r) are is = ended bytes k r (is_waiting r) are refl is
 
-read_of : (bytes : List (List ℕ)) (k : Kept) → read_store bytes ≡ Some k → Read bytes k
+pub read_of : (bytes : List (List ℕ)) (k : Kept) → read_store bytes ≡ Some k → Read bytes k
 read_of bytes k is = read_by bytes k (took_all start bytes) refl is
 
-store_of : (bytes : List (List ℕ)) (k : Kept) → Read bytes k → read_store bytes ≡ Some k
+pub store_of : (bytes : List (List ℕ)) (k : Kept) → Read bytes k → read_store bytes ≡ Some k
 store_of bytes k r =
     ap (λ (o : Option Reading). option_and_then finished o) r.are ∙ ap (λ (b : Bool). cond b None (Some k)) r.ready
 
@@ -107,11 +107,11 @@ then_log l k (Entry index term entry) (Snap i t ∷ xs) f j g = absurd g
 then_log l k (Entry index term entry) (Vote t v ∷ xs) f j g = refl
 then_log l k (Entry index term entry) (Entry i t e ∷ xs) f j g = refl
 
-abbrev with_log : ℕ → ℕ → Option (List ℕ) → LogParts → Kept
+abbrev pub with_log : ℕ → ℕ → Option (List ℕ) → LogParts → Kept
 with_log term vote snapshot log = record { term = term; vote = vote; log = log; snapshot = snapshot }
 
 -- a store with these items more says what is kept after them
-added : (bytes : List (List ℕ)) (k : Kept) (xs : List Item) (s : List ℕ) → Read bytes k → Follow k xs → Read (bytes ++ map (item_bytes s) xs) (after k xs)
+pub added : (bytes : List (List ℕ)) (k : Kept) (xs : List Item) (s : List ℕ) → Read bytes k → Follow k xs → Read (bytes ++ map (item_bytes s) xs) (after k xs)
 added bytes k [] s r f = subst (λ (b : List (List ℕ)). Read b k) (sym (append-nil bytes)) r
 added bytes k (Snap index term ∷ xs) s r f = absurd f
 added bytes k (Vote term vote ∷ xs) s r f =
