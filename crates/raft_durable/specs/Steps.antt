@@ -73,7 +73,6 @@ kept_of c snapshot = record { term = c.term; vote = c.vote; log = c.log; snapsho
 abbrev pub kept_on : CoreParts → CoreEvent → Option (List ℕ) → List ℕ → Kept
 kept_on c event now snapshot = kept_of (on c event).core (snapshot_after now snapshot (on c event).items)
 
--- what a store asks of a node beyond what fits: its vote is for a node, and the terms of its log do not fall and end with its own at most
-pub record Ordered (c : CoreParts) : Type 0 where
-  pub vote : c.vote ≤ MAX_NODES
-  pub terms : Rising c.log.base_term c.term c.log.entries
+-- the terms of a node's log do not fall from the base's on, and none is above its own
+abbrev pub TermsRise : CoreParts → Type 0
+TermsRise c = Rising c.log.base_term c.term c.log.entries

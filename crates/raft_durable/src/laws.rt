@@ -9,7 +9,7 @@ ghost use Rattle.raft_types.specs.Step.{on};
 ghost use Rattle.raft_durable.specs.declared.kept.Kept.{Kept};
 ghost use Rattle.raft_durable.specs.Bytes.{item_bytes};
 ghost use Rattle.raft_durable.specs.Laws.{AllFit, Follow, Spells, after};
-ghost use Rattle.raft_durable.specs.Steps.{KeptFits, Based, VoteRises, SaysAfter, Ordered, kept_after, kept_of, kept_on};
+ghost use Rattle.raft_durable.specs.Steps.{KeptFits, Based, VoteRises, SaysAfter, TermsRise, kept_after, kept_of, kept_on};
 ghost use Rattle.raft_durable.specs.Stores.{read_store, kept_bytes};
 
 /// A list is read exactly where items that follow each other are spelled by it, and it says what they say.
@@ -40,10 +40,10 @@ pub fn formed_items()
         KeptFits (kept_after k snapshot items) → SaysAfter bytes snapshot items (kept_after k snapshot items) }
 {}
 
-/// The items of a step of a node whose store says what it keeps: the store then says what the node keeps after the step. The
-/// terms of the node's log are in order after the step.
+/// The items of a step of a node whose store says what it keeps: the store then says what the node keeps after the step. That
+/// the terms of its log do not fall, and none is above its own, is asked of what the step leaves.
 pub fn step_items()
     ensures { (bytes : List (List ℕ)) (now : Option (List ℕ)) (snapshot : List ℕ) (c : CoreParts) (event : CoreEvent) →
-        read_store bytes ≡ Some (kept_of c now) → CoreFits c → EventFits c event → Ordered (on c event).core →
+        read_store bytes ≡ Some (kept_of c now) → CoreFits c → EventFits c event → TermsRise (on c event).core →
         SaysAfter bytes snapshot (on c event).items (kept_on c event now snapshot) }
 {}
