@@ -1,23 +1,23 @@
 -- A store that is written anew, and the items of every form.
-use Rattle.std.proofs.Common.{◌≡◌, ℕ, suc, ◌+◌, ◌-◌, ◌<◌, ◌≤◌, Bool, true, false, cond, List, [], ◌∷◌, ◌++◌, length, map, take, refl, sym, ap, subst, ◌∙◌, arith, append_assoc, Option, Some, None}
-use Rattle.std.specs.Prelude.{nat_le, option_and_then, unwrap_or}
+use Rattle.std.proofs.Common.{◌≡◌, ℕ, suc, ◌+◌, ◌-◌, ◌≤◌, Bool, true, false, cond, List, [], ◌∷◌, ◌++◌, map, take, refl, sym, ap, subst, ◌∙◌, arith, Option, Some, None}
+use Rattle.std.specs.Prelude.{option_and_then}
 use Rattle.raft_types.specs.declared.entry.LogEntry.{LogEntry}
 use Rattle.raft_types.specs.declared.item.Item.{Item}
 use Rattle.raft_types.specs.declared.item.Item.TheVariants.{Snap, Vote, Entry}
 use Rattle.raft_types.specs.declared.limits.TheConstants.{MAX_TERM, MAX_INDEX, MAX_NODES}
 use Rattle.raft_types.specs.Items.{stored, number, log_after, term_after, vote_after, Restart, ItemsForm}
-use Rattle.raft_types.specs.Log.{LogParts, last_index, log_term, or_zero}
+use Rattle.raft_types.specs.Log.{LogParts, log_term, or_zero}
 use Rattle.raft_types.specs.Step.{starts_anew}
 use Rattle.raft_types.proofs.Kept.{stored_past, number_term, number_vote}
 use Rattle.raft_durable.specs.declared.kept.Kept.{Kept}
 use Rattle.raft_durable.specs.declared.reading.Reading.{Reading}
 use Rattle.raft_durable.specs.Bytes.{item_bytes}
-use Rattle.raft_durable.specs.Stores.{start, may_vote, took, took_bytes, took_all, read_store, snap_items, kept_items, kept_bytes}
+use Rattle.raft_durable.specs.Stores.{start, may_vote, took_bytes, took_all, read_store, kept_bytes}
 use Rattle.raft_durable.specs.Laws.{CanVote, Follow, after}
 use Rattle.raft_durable.specs.Steps.{Rising, KeptFits, Based, VoteRises, kept_after, IsStore, SaysAfter}
 use Rattle.raft_durable.proofs.Rising.{rising_to, follow, goes_follow}
 use Rattle.raft_durable.proofs.Spelling.{spelled}
-use Rattle.raft_durable.proofs.Steps.{Read, reading, with_log, le_true, and_true, added, says, fronts, store_of, read_of}
+use Rattle.raft_durable.proofs.Steps.{Read, reading, with_log, le_true, and_true, added, says, fronts, store_of}
 
 -- ---- a store written anew
 

@@ -7,7 +7,6 @@ use Rattle.raft_types.specs.declared.limits.TheConstants.{MAX_TERM, MAX_NODES}
 use Rattle.raft_types.specs.declared.event.CoreEvent.{CoreEvent}
 use Rattle.raft_types.specs.Core.{CoreParts}
 use Rattle.raft_types.specs.Fits.{CoreFits, EventFits}
-use Rattle.raft_types.specs.Log.{LogParts}
 use Rattle.raft_types.specs.Step.{on}
 use Rattle.raft_types.proofs.Kept.{items_tell}
 use Rattle.raft_types.proofs.Writes.{step_fits}

@@ -1,12 +1,12 @@
 -- Terms that do not fall, and entries that may follow.
-use Rattle.std.proofs.Common.{◌≡◌, ℕ, zero, suc, ◌+◌, ◌-◌, ◌<◌, ◌≤◌, List, [], ◌∷◌, ◌++◌, length, take, get_or, refl, sym, ap, subst, ◌∙◌, arith, append_assoc, length-append, Option, Some, None}
+use Rattle.std.proofs.Common.{◌≡◌, ℕ, zero, suc, ◌+◌, ◌-◌, ◌<◌, ◌≤◌, List, [], ◌∷◌, ◌++◌, length, take, get_or, refl, sym, ap, subst, ◌∙◌, arith, append_assoc, length-append, Some}
 use Rattle.std.proofs.lemmas.List.{length-take-le}
 use Rattle.std.proofs.Math.Seq.{get_or-append_seam}
 use Rattle.raft_types.specs.declared.entry.LogEntry.{LogEntry}
 use Rattle.raft_types.specs.declared.item.Item.{Item}
-use Rattle.raft_types.specs.declared.item.Item.TheVariants.{Vote, Entry}
+use Rattle.raft_types.specs.declared.item.Item.TheVariants.{Entry}
 use Rattle.raft_types.specs.declared.limits.TheConstants.{MAX_TERM, MAX_INDEX}
-use Rattle.raft_types.specs.Items.{stored, number, log_after, GoOn}
+use Rattle.raft_types.specs.Items.{stored, number, GoOn}
 use Rattle.raft_types.specs.Log.{LogParts, nothing, last_index, log_term, or_zero}
 use Rattle.raft_types.proofs.Kept.{stored_past}
 use Rattle.raft_durable.specs.declared.kept.Kept.{Kept}

@@ -1,5 +1,5 @@
 -- How term and vote change in a step.
-use Rattle.std.proofs.Common.{◌≡◌, ℕ, suc, ◌+◌, ◌-◌, ◌<◌, ◌≤◌, ◌⊎◌, inl, inr, ⊎_elim, min, max, Bool, true, false, cond, not, nat_lt, nat_le, ◌&&◌, ◌||◌, ◌==◌, List, [], ◌∷◌, length, map, set, refl, sym, ap, subst, ◌∙◌, arith, Option}
+use Rattle.std.proofs.Common.{◌≡◌, ℕ, suc, ◌+◌, ◌-◌, ◌<◌, ◌≤◌, ◌⊎◌, inl, inr, ⊎_elim, min, max, Bool, true, false, cond, nat_lt, nat_le, ◌&&◌, ◌||◌, ◌==◌, List, [], ◌∷◌, length, map, set, refl, arith, Option}
 use Rattle.std.specs.Prelude.{replicate}
 use Rattle.raft_types.specs.declared.entry.LogEntry.{LogEntry}
 use Rattle.raft_types.specs.declared.event.CoreEvent.{CoreEvent}
@@ -11,18 +11,17 @@ use Rattle.raft_types.specs.declared.message.Body.{Body}
 use Rattle.raft_types.specs.declared.message.Body.TheVariants.{Vote, VoteReply, Append, AppendReply, Chunk, ChunkReply}
 use Rattle.raft_types.specs.declared.message.Message.{Message}
 use Rattle.raft_types.specs.declared.state.Role.TheVariants.{Follower}
-use Rattle.raft_types.specs.Log.{last_index, log_last_term}
+use Rattle.raft_types.specs.Log.{last_index}
 use Rattle.raft_types.specs.Items.{number}
 use Rattle.raft_types.specs.Body.{body_term}
 use Rattle.raft_types.specs.Core.{CoreParts, Out, is_leader, is_candidate, is_majority, voted_for, peers, message_to, quiet, next_of, match_of}
 use Rattle.raft_types.specs.Send.{sent_to, to_all, chunk_from}
 use Rattle.raft_types.specs.Commit.{committed, appends}
-use Rattle.raft_types.specs.Election.{raised, elected, leads, elects, stands, ask, times_out, with_vote_of, is_newer, may_grant}
+use Rattle.raft_types.specs.Election.{elected, leads, elects, stands, ask, times_out, with_vote_of, is_newer, may_grant}
 use Rattle.raft_types.specs.Append.{follows, passes, accepts, fresh_items, acked_by, refused_by}
 use Rattle.raft_types.specs.Snapshot.{installs}
 use Rattle.raft_types.specs.Step.{hears, rule, with_vote, on}
 use Rattle.raft_types.specs.Fits.{CoreFits, EventFits}
-use Rattle.raft_durable.specs.declared.kept.Kept.{Kept}
 use Rattle.raft_durable.specs.Stores.{rises}
 use Rattle.raft_durable.specs.Steps.{VoteRises, kept_of}
 

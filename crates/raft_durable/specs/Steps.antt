@@ -1,12 +1,12 @@
 -- What a node's store says after the items of a step.
-use Rattle.std.specs.Prelude.{◌≡◌, ℕ, ◌≤◌, Bool, true, false, if◌then◌else◌, ⊤, List, [], ◌∷◌, ◌++◌, map, take, Option, Some, None}
+use Rattle.std.specs.Prelude.{◌≡◌, ℕ, ◌≤◌, true, false, if◌then◌else◌, ⊤, List, [], ◌∷◌, ◌++◌, map, take, Option, Some, None}
 use Rattle.raft_types.specs.declared.entry.LogEntry.{LogEntry}
 use Rattle.raft_types.specs.declared.event.CoreEvent.{CoreEvent}
 use Rattle.raft_types.specs.declared.item.Item.{Item}
 use Rattle.raft_types.specs.declared.item.Item.TheVariants.{Snap, Vote, Entry}
 use Rattle.raft_types.specs.declared.limits.TheConstants.{MAX_TERM, MAX_INDEX, MAX_NODES}
 use Rattle.raft_types.specs.Core.{CoreParts}
-use Rattle.raft_types.specs.Items.{log_after, term_after, vote_after, ItemsForm}
+use Rattle.raft_types.specs.Items.{log_after, term_after, vote_after}
 use Rattle.raft_types.specs.Log.{LogParts, last_index}
 use Rattle.raft_types.specs.Step.{on, starts_anew}
 use Rattle.raft_durable.specs.declared.kept.Kept.{Kept}
