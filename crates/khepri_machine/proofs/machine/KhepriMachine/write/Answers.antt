@@ -2,9 +2,9 @@ use Rattle.khepri_machine.proofs.Writing.{stands_there, version_stays}
 use Rattle.khepri_machine.proofs.machine.KhepriMachine.write.Goals as goal
 
 pub give_watches-requires : goal.give_watches-requires
-give_watches-requires g c = record { stands = stands_there c.in_ok-draft.draft.tree c.set.new.self.tree c.args.path.now c.args.payload.now c.in_ok-version.ensures.tree }
+give_watches-requires g c = record { stands = stands_there c.draft-draft.result.tree c.set.new.self.tree c.args.path.now c.args.payload.now c.in_ok-version.ensures.tree }
 
 pub finish_write-requires : goal.finish_write-requires
 finish_write-requires g c = record {
-  version = version_stays c.in_ok-draft.draft.tree c.set.new.self.tree c.give_watches.new.draft.tree c.args.path.now c.args.payload.now c.args.watch.now c.in_ok-version.version c.in_ok-version.ensures.tree c.in_ok-give_watches.ensures.tree c.in_ok-version.ensures.version;
+  version = version_stays c.draft-draft.result.tree c.set.new.self.tree c.give_watches.new.draft.tree c.args.path.now c.args.payload.now c.args.watch.now c.in_ok-version.version c.in_ok-version.ensures.tree c.in_ok-give_watches.ensures.tree c.in_ok-version.ensures.version;
 }
