@@ -15,7 +15,9 @@ use tree_nodes::{Draft, Tree};
 
 // How many paths the changes are made of, and how many trees and how many drafts of each are tried.
 const PATHS: u64 = 12;
+
 const TREES: u64 = 40;
+
 const DRAFTS: u64 = 12;
 
 // The text of a path of the tests.
@@ -43,7 +45,9 @@ fn path_at(alloc: Global, number: u64) -> Result<Path, TextFault> {
 
 // The next number of a generator, below a bound.
 fn draw(seed: &mut u64, bound: u64) -> u64 {
-    *seed = seed.wrapping_mul(6364136223846793005).wrapping_add(1442695040888963407);
+    *seed = seed
+        .wrapping_mul(6364136223846793005)
+        .wrapping_add(1442695040888963407);
     if bound == 0 {
         return 0;
     }
@@ -168,7 +172,9 @@ fn kids_in<L: Ledger>(
             let Some(name) = draft.child_after(parent, after, steps) else {
                 return None;
             };
-            if !begins(path, parent) || !path.names().last().is_some_and(|last| last.is_same(name)) {
+            if !begins(path, parent)
+                || !path.names().last().is_some_and(|last| last.is_same(name))
+            {
                 return None;
             }
             after = Some(name);
@@ -382,12 +388,7 @@ fn turn<L: Ledger>(
     Ok(counted && same && covered && is_same(alloc, &tree.draft(), map, steps)?)
 }
 
-fn turns<L: Ledger>(
-    alloc: Global,
-    tree: Tree,
-    seed: u64,
-    blank: Blank,
-) -> Result<bool, TextFault>
+fn turns<L: Ledger>(alloc: Global, tree: Tree, seed: u64, blank: Blank) -> Result<bool, TextFault>
     requires blank { (blank.name ≡ L.name) × (blank.parts ≡ L.parts) × (0 < L.parts) }
 {
     let mut tree = tree;
