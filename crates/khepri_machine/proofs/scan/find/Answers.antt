@@ -1,7 +1,9 @@
-use Rattle.std.proofs.Common.{◌≡◌, ◌∙◌, List, [], ◌∷◌, ◌++◌, length, take, map, refl, sym, ap, subst, arith}
+use Rattle.std.proofs.Common.{◌≡◌, ◌<◌, ◌∙◌, List, [], ◌∷◌, ◌++◌, Option, length, take, map, refl, sym, ap, subst, arith}
 use Rattle.std.specs.Prelude.{is_some}
 use Rattle.std.proofs.lemmas.List.{length-map}
 use Rattle.khepri_types.specs.Exec.{shown_node}
+use Rattle.khepri_terms.specs.Terms.{NameText}
+use Rattle.khepri_machine.specs.Scans.{ahead, AreBehind, ComesNext}
 use Rattle.khepri_types.specs.Patterns.{matches, matching_nodes}
 use Rattle.khepri_machine.specs.declared.scan.Found.{Found}
 use Rattle.khepri_machine.specs.Listing.{Lists}
@@ -12,13 +14,15 @@ use Rattle.khepri_machine.proofs.scan.find.Goals as goal
 pub nodes-init : goal.nodes-init
 nodes-init g c = ([], scan-begins c.args.pattern.now c.args.tree.now c.start-masks.result (c.start-masks.ensures c.args.tree.now), lists-none c.args.tree.now c.args.limit (record { count = 0; nodes = c.new.result }) refl c.new.ensures.items)
 
-pub visit-visited-requires-clause-more : goal.visit-visited-requires-clause-more
-visit-visited-requires-clause-more g c =
+pub visit-requires-clause-more : goal.visit-requires-clause-more
+visit-requires-clause-more g c =
     let i = c.nodes.invariant in
-    scan-more c.args.pattern.now c.args.tree.now c.nodes.counter c.nodes.last c.nodes.masks i.0 i.1 (omega (arith, c.nodes-end.ensures.count))
+    subst (λ (a : Option (List NameText)). 0 < length (ahead c.args.tree.now a)) (sym c.as_ref.ensures.value)
+    (scan-more c.args.pattern.now c.args.tree.now c.nodes.counter c.nodes.last c.nodes.masks i.0 i.1 (omega (arith, c.nodes-end.ensures.count)))
 
-pub visit-visited-requires-clause-behind : goal.visit-visited-requires-clause-behind
-visit-visited-requires-clause-behind g c = c.nodes.invariant.1.behind
+pub visit-requires-clause-behind : goal.visit-requires-clause-behind
+visit-requires-clause-behind g c =
+    subst (λ (a : Option (List NameText)). AreBehind c.args.pattern.now c.args.tree.now a c.nodes.masks) (sym c.as_ref.ensures.value) c.nodes.invariant.1.behind
 
 pub add-requires : goal.add-requires
 add-requires g c = record { room = omega (arith, c.nodes.invariant.1.few, c.nodes.invariant.2.count) }
@@ -29,15 +33,15 @@ nodes-preserved g c =
     let T = c.args.tree.now in
     let q = c.in_ok-visited.visited.path in
     let i = c.nodes.invariant in
-    let next = c.in_ok-visited.ensures.next in
+    let next = subst (λ (a : Option (List NameText)). ComesNext T a q) c.as_ref.ensures.value c.in_ok-visited.ensures.next in
     let are = c.in_ok-visited.ensures.masks in
     let told : c.accepts.result ≡ matches parts T q = c.accepts.ensures T q (ap is_some next.1) (c.top.ensures.mask parts T q are) in
     elim c.if-accepts.branch [
       | then-accepts+in_ok-add w ↦
           let es : List Entry = i.0 ++ (q, next.0) ∷ [] in
-          (es, scan-taken parts T c.nodes.counter c.nodes.last c.nodes.masks c.visit-visited.new.masks i.0 q next i.1 are (sym told ∙ w.if-accepts.true), subst (λ (f : Found). Lists T c.args.limit es f) (sym w.found-is) (w.in_ok-add.ensures T i.0 next.0 next.1 c.in_ok-visited.ensures.node i.2))
+          (es, scan-taken parts T c.nodes.counter c.nodes.last c.nodes.masks c.visit.new.masks i.0 q next i.1 are (sym told ∙ w.if-accepts.true), subst (λ (f : Found). Lists T c.args.limit es f) (sym w.found-is) (w.in_ok-add.ensures T i.0 next.0 next.1 c.in_ok-visited.ensures.node i.2))
       | else-accepts w ↦
-          (i.0, scan-left parts T c.nodes.counter c.nodes.last c.nodes.masks c.visit-visited.new.masks i.0 q next i.1 are (sym told ∙ w.if-accepts.false), subst (λ (f : Found). Lists T c.args.limit i.0 f) (sym w.found-is) i.2)
+          (i.0, scan-left parts T c.nodes.counter c.nodes.last c.nodes.masks c.visit.new.masks i.0 q next i.1 are (sym told ∙ w.if-accepts.false), subst (λ (f : Found). Lists T c.args.limit i.0 f) (sym w.found-is) i.2)
     ]
 
 pub returns-clause-count : goal.returns-clause-count
