@@ -1,5 +1,5 @@
 // Random changes of trees, compared with a flat map from paths to nodes that does each of them by going over all its entries.
-ghost use Rattle.std.specs.Prelude.{◌≡◌, ◌<◌};
+ghost use Rattle.std.specs.Prelude.{◌≡◌, ◌<◌, length};
 
 use crate::nodes::tree_of_a_root;
 use khepri_terms::{Path, Rec, TextFault};
@@ -293,9 +293,7 @@ fn drop_two<L: Ledger>(
     requires second { 0 < length second }
     ensures base { draft.new.base ≡ draft.old.base }
 {
-    let mut paths = Vec::new(alloc);
-    paths.push(first)?;
-    paths.push(second)?;
+    let paths = vec![in alloc; first, second]?;
     draft.drop_all(paths.as_slice(), steps)
 }
 
