@@ -1,1 +1,2 @@
+mod RootPattern
 mod Sparing
