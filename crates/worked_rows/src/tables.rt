@@ -288,6 +288,11 @@ fn a_board_shows_what_was_published(rt: HostRuntime) -> Result<(), Fail> {
     Ok(())
 }
 
+fn root_pattern(alloc: Global) -> Pattern {
+    let parts = Items::new(alloc);
+    Pattern::new(parts)
+}
+
 fn projection(alloc: Global, name: &str) -> Result<Projection, TextFault> {
     let mut keys = Items::new(alloc);
     keys.push(Origin::Seg(2))?;
@@ -297,7 +302,7 @@ fn projection(alloc: Global, name: &str) -> Result<Projection, TextFault> {
     Ok(Projection {
         name: name_of(alloc, name)?,
         bag: true,
-        pattern: Pattern::new(Items::new(alloc)),
+        pattern: root_pattern(alloc),
         keys,
         values,
     })
