@@ -1,7 +1,7 @@
 -- Whatever happens, what holds of a world is kept.
-use Rattle.std.proofs.Common.{◌≡◌, ℕ, zero, suc, ◌-◌, ◌<◌, ◌≤◌, Bool, true, false, cond, ◌&&◌, nat_lt, All, List, [], ◌∷◌, length, take, drop, set, Option, Some, None, refl, sym, ap, ◌∙◌, subst, arith, ⊎_elim}
+use Rattle.std.proofs.Common.{◌≡◌, ℕ, zero, suc, ◌-◌, ◌<◌, ◌≤◌, Bool, true, false, cond, ◌&&◌, nat_lt, ◌==◌, All, List, [], ◌∷◌, length, take, drop, set, get_or, ◌++◌, ◌-◌, ◌≢◌, nat_le, length-drop, Option, Some, None, refl, sym, ap, ◌∙◌, subst, arith, inl, ⊎_elim}
 use Rattle.std.proofs.lemmas.Bool.{cases_lt, and_parts}
-use Rattle.std.proofs.lemmas.List.Elements.{All-head, All-append, All-take, All-drop}
+use Rattle.std.proofs.lemmas.List.Elements.{All-head, All-cons, All-weaker, All-append, All-take, All-drop}
 use Rattle.raft_types.specs.declared.limits.TheConstants.{MAX_INDEX}
 use Rattle.raft_types.specs.declared.event.CoreEvent.TheVariants.{Timeout as TimeoutEvent, Beat as BeatEvent, Command as CommandEvent, Fire as FireEvent}
 use Rattle.raft_types.specs.declared.message.Message.{Message}
@@ -10,12 +10,21 @@ use Rattle.raft_types.specs.Core.{is_leader}
 use Rattle.raft_spine.specs.Start.{Start}
 use Rattle.raft_spine.specs.Spine.{Spine}
 use Rattle.raft_claims.proofs.TurnReplies.{leader_role}
-use Rattle.cluster_world.specs.World.{Machine, Node, Placed, World, core_of, refreshed, last_of, node_at}
-use Rattle.cluster_world.specs.Node.{is_due, tidied, tidied_if_due}
-use Rattle.cluster_world.specs.Events.{with_node, own_event, may_append, tidies, tidies_if_due, starts, fails_to_start, without, delivers}
+use Rattle.raft_claims.specs.Events.{Asked, kept}
+use Rattle.raft_types.specs.declared.entry.LogEntry.{LogEntry}
+use Rattle.raft_types.specs.declared.event.CoreEvent.{CoreEvent}
+use Rattle.raft_types.specs.declared.state.Role.TheVariants.{Follower, Leader}
+use Rattle.raft_types.specs.Log.{last_index}
+use Rattle.raft_types.specs.Step.{on}
+use Rattle.raft_spine.proofs.Grow.{grows_both}
+use Rattle.cluster_world.specs.World.{Machine, Node, Placed, World, nobody, log_of, core_of, refreshed, last_of, node_at}
+use Rattle.cluster_world.specs.Node.{applied_before, ended, halted, is_due, tidied, tidied_if_due}
+use Rattle.cluster_world.specs.Events.{with_node, sent, own_event, may_append, next_entry, tidies, tidies_if_due, starts, fails_to_start, without, arrives, delivers}
 use Rattle.cluster_world.specs.Facts.{IsFit}
-use Rattle.cluster_world.proofs.Steps.{IsPast, own_steps, fire_steps, timeout_steps, beat_steps}
-use Rattle.cluster_world.proofs.Keeping.{NodeKept, InFlight, Kept, kept_node, up_inside}
+use Rattle.cluster_world.proofs.Steps.{IsPast, Steps, own_steps, fire_steps, timeout_steps, beat_steps}
+use Rattle.cluster_world.proofs.Roles.{no_follower}
+use Rattle.cluster_world.proofs.Keeping.{NodeKept, InFlight, Kept, Onward, onward_same, onward_node, up_inside, with_node_same}
+use Rattle.cluster_world.proofs.Holding.{Took, Holds, took_on, differs_on, holds_on, one_differs, one_longer}
 use Rattle.cluster_world.proofs.Worlds.{kept_own, kept_arrives, refreshed_kept, tidied_kept}
 
 -- a node with the same whole log and a snapshot at least as far
@@ -23,155 +32,253 @@ pub record IsAlike (b : Start) (m : Machine) (s : Spine) (k : ℕ) (n n' : Node)
   pub kept : NodeKept b m s k n'
   pub base : n.base ≤ n'.base
   pub whole : n'.whole ≡ n.whole
+  pub leads : n'.role ≡ Leader → (n.role ≡ Leader) × (n'.term ≡ n.term)
 
 alike_then : (b : Start) (m : Machine) (s : Spine) (k : ℕ) (n n1 n2 : Node) → IsAlike b m s k n n1 → IsAlike b m s k n1 n2 → IsAlike b m s k n n2
-alike_then b m s k n n1 n2 x y = let x1 = x.base in let y1 = y.base in record { kept = y.kept; base = omega arith; whole = y.whole ∙ x.whole }
+alike_then b m s k n n1 n2 x y = let x1 = x.base in let y1 = y.base in record { kept = y.kept; base = omega arith; whole = y.whole ∙ x.whole; leads = λ e. let q = y.leads e in let r = x.leads q.0 in (r.0, q.1 ∙ r.1) }
 
 refreshed_alike : (b : Start) (m : Machine) (s : Spine) (k : ℕ) (up : Bool) (n : Node) → NodeKept b m s k n → IsAlike b m s k n (refreshed b up n)
-refreshed_alike b m s k up n ok = record { kept = refreshed_kept b m s k up n ok; base = omega arith; whole = refl }
+refreshed_alike b m s k up n ok = record { kept = refreshed_kept b m s k up n ok; base = omega arith; whole = refl; leads = λ e. absurd (let q : Follower ≡ Leader = e in cc) }
 
 tidied_alike : (b : Start) (m : Machine) (s : Spine) (k : ℕ) (n : Node) → NodeKept b m s k n → IsAlike b m s k n (tidied b n)
-tidied_alike b m s k n ok = record { kept = tidied_kept b m s k n ok; base = ok.from_base; whole = refl }
+tidied_alike b m s k n ok = record { kept = tidied_kept b m s k n ok; base = ok.from_base; whole = refl; leads = λ e. (e, refl) }
 
 due_alike : (b : Start) (m : Machine) (s : Spine) (k : ℕ) (n : Node) → NodeKept b m s k n → IsAlike b m s k n (tidied_if_due b n)
 due_alike b m s k n ok = answer (is_due b n)
   where
     answer : (g : Bool) → IsAlike b m s k n (cond g (tidied b n) n)
     answer true = tidied_alike b m s k n ok
-    answer false = record { kept = ok; base = omega arith; whole = refl }
+    answer false = record { kept = ok; base = omega arith; whole = refl; leads = λ e. (e, refl) }
 
 pub set_past : {A : Type 0} (xs : List A) (i : ℕ) (v : A) → length xs ≤ i → set xs i v ≡ xs
 set_past [] i v h = refl
 set_past (x ∷ xs) zero v h = absurd (omega arith)
 set_past (x ∷ xs) (suc i) v h = ap (λ (ys : List _). x ∷ ys) (set_past xs i v (omega arith))
 
-module _ (b : Start) (m : Machine) (w : World) (h : Kept b m w) where
+-- the same nodes and history, with other things beside them
+abbrev refit_kept : (b : Start) (m : Machine) (w : World) (h : Kept b m w) (flight : List Message) → All (InFlight b m h.spine w) flight → (cuts : List (ℕ × ℕ)) (hold : Bool) (takes : List Placed)
+    (opened : List LogParts) (all : Bool) (fires : List Placed) → Kept b m (record w { flight = flight; cuts = cuts; hold = hold; takes = takes; opened = opened; all_started = all; fires = fires })
+refit_kept b m w h flight f cuts hold takes opened all fires = record {
+  spine = h.spine;
+  reached = h.reached;
+  nodes = h.nodes;
+  flight = λ i d lt. let y = f i d lt in record { from_node = y.from_node; to_node = y.to_node; other = y.other; claim = y.claim; chunk = y.chunk };
+  history = record { bound = h.history.bound; decided = h.history.decided; long = h.history.long };
+}
+
+module _ (b : Start) (m : Machine) (s0 : Spine) (w : World) (h : Holds b m s0 w) where
   -- a node that is changed and has moved nothing
-  pub kept_put : (k : ℕ) (n' : Node) → ((place : ℕ) → k ≡ suc place → place < length w.nodes → IsAlike b m h.spine k (node_at b w k) n') → Kept b m (with_node k n' w)
-  kept_put zero n' f = h
-  kept_put (suc place) n' f = ⊎_elim
+  onward_put : (k : ℕ) (n' : Node) → ((place : ℕ) → k ≡ suc place → place < length w.nodes → IsAlike b m h.kept.spine k (node_at b w k) n') → Onward b m h.kept.spine w (with_node k n' w)
+  onward_put zero n' f = onward_same b m w h.kept
+  onward_put (suc place) n' f = ⊎_elim
       (λ (inside : place < length w.nodes).
       let a = f place refl inside in
-      kept_node b m w h place inside n' (record {
+      onward_node b m w h.kept place inside n' (record {
         moves = [];
         mine = λ k d l. absurd (omega (arith, l));
         can = tt;
         kept = a.kept;
         base = a.base;
         front = ap (take ((node_at b w (suc place)).base - b.base)) a.whole;
+        how = λ e. let y = a.leads e in inl (no_follower (node_at b w (suc place)).role y.0, y.1);
       }))
-      (λ (past : length w.nodes ≤ place). subst (λ (ns : List Node). Kept b m (record w { nodes = ns })) (sym (set_past w.nodes place n' past)) h)
+      (λ (past : length w.nodes ≤ place). subst (λ (ns : List Node). Onward b m h.kept.spine w (record w { nodes = ns })) (sym (set_past w.nodes place n' past)) (onward_same b m w h.kept))
       (cases_lt place (length w.nodes))
 
-  ok_at : (k place : ℕ) → k ≡ suc place → place < length w.nodes → NodeKept b m h.spine k (node_at b w k)
-  ok_at k place e inside = subst (λ (j : ℕ). NodeKept b m h.spine j (node_at b w j)) (sym e) (h.nodes place inside)
+  pub kept_put : (k : ℕ) (n' : Node) → ((place : ℕ) → k ≡ suc place → place < length w.nodes → IsAlike b m h.kept.spine k (node_at b w k) n') → Holds b m s0 (with_node k n' w)
+  kept_put k n' f = holds_on b m s0 w (with_node k n' w) h (onward_put k n' f)
 
-  pub kept_starts : (k : ℕ) → Kept b m (starts b k w)
+  ok_at : (k place : ℕ) → k ≡ suc place → place < length w.nodes → NodeKept b m h.kept.spine k (node_at b w k)
+  ok_at k place e inside = subst (λ (j : ℕ). NodeKept b m h.kept.spine j (node_at b w j)) (sym e) (h.kept.nodes place inside)
+
+  pub kept_starts : (k : ℕ) → Holds b m s0 (starts b k w)
   kept_starts k = kept_put k (tidied_if_due b (refreshed b true (node_at b w k))) (λ place e inside.
       let ok = ok_at k place e inside in
-      alike_then b m h.spine k (node_at b w k) (refreshed b true (node_at b w k)) (tidied_if_due b (refreshed b true (node_at b w k))) (refreshed_alike b m h.spine k true (node_at b w k) ok)
-      (due_alike b m h.spine k (refreshed b true (node_at b w k)) (refreshed_kept b m h.spine k true (node_at b w k) ok)))
+      alike_then b m h.kept.spine k (node_at b w k) (refreshed b true (node_at b w k)) (tidied_if_due b (refreshed b true (node_at b w k))) (refreshed_alike b m h.kept.spine k true (node_at b w k) ok)
+      (due_alike b m h.kept.spine k (refreshed b true (node_at b w k)) (refreshed_kept b m h.kept.spine k true (node_at b w k) ok)))
 
-  pub kept_fails : (k : ℕ) (replaced : Bool) → Kept b m (fails_to_start b k replaced w)
-  kept_fails k false = kept_put k (refreshed b false (node_at b w k)) (λ place e inside. refreshed_alike b m h.spine k false (node_at b w k) (ok_at k place e inside))
+  pub kept_fails : (k : ℕ) (replaced : Bool) → Holds b m s0 (fails_to_start b k replaced w)
+  kept_fails k false = kept_put k (refreshed b false (node_at b w k)) (λ place e inside. refreshed_alike b m h.kept.spine k false (node_at b w k) (ok_at k place e inside))
   kept_fails k true = kept_put k (refreshed b false (tidied_if_due b (refreshed b false (node_at b w k)))) (λ place e inside.
       let n = node_at b w k in
-      let x = refreshed_alike b m h.spine k false n (ok_at k place e inside) in
-      let y = due_alike b m h.spine k (refreshed b false n) x.kept in
-      alike_then b m h.spine k n (tidied_if_due b (refreshed b false n)) (refreshed b false (tidied_if_due b (refreshed b false n)))
-      (alike_then b m h.spine k n (refreshed b false n) (tidied_if_due b (refreshed b false n)) x y) (refreshed_alike b m h.spine k false (tidied_if_due b (refreshed b false n)) y.kept))
+      let x = refreshed_alike b m h.kept.spine k false n (ok_at k place e inside) in
+      let y = due_alike b m h.kept.spine k (refreshed b false n) x.kept in
+      alike_then b m h.kept.spine k n (tidied_if_due b (refreshed b false n)) (refreshed b false (tidied_if_due b (refreshed b false n)))
+      (alike_then b m h.kept.spine k n (refreshed b false n) (tidied_if_due b (refreshed b false n)) x y) (refreshed_alike b m h.kept.spine k false (tidied_if_due b (refreshed b false n)) y.kept))
 
-  pub kept_stops : (k : ℕ) → Kept b m (with_node k (refreshed b false (node_at b w k)) w)
-  kept_stops k = kept_put k (refreshed b false (node_at b w k)) (λ place e inside. refreshed_alike b m h.spine k false (node_at b w k) (ok_at k place e inside))
+  pub kept_stops : (k : ℕ) → Holds b m s0 (with_node k (refreshed b false (node_at b w k)) w)
+  kept_stops k = kept_put k (refreshed b false (node_at b w k)) (λ place e inside. refreshed_alike b m h.kept.spine k false (node_at b w k) (ok_at k place e inside))
 
-  pub kept_tidies : (k : ℕ) (stop : Option Bool) → Kept b m (tidies b k stop w)
-  kept_tidies k None = kept_put k (tidied b (node_at b w k)) (λ place e inside. tidied_alike b m h.spine k (node_at b w k) (ok_at k place e inside))
+  pub kept_tidies : (k : ℕ) (stop : Option Bool) → Holds b m s0 (tidies b k stop w)
+  kept_tidies k None = kept_put k (tidied b (node_at b w k)) (λ place e inside. tidied_alike b m h.kept.spine k (node_at b w k) (ok_at k place e inside))
   kept_tidies k (Some false) = kept_stops k
   kept_tidies k (Some true) = kept_put k (refreshed b false (tidied b (node_at b w k))) (λ place e inside.
-      let x = tidied_alike b m h.spine k (node_at b w k) (ok_at k place e inside) in
-      alike_then b m h.spine k (node_at b w k) (tidied b (node_at b w k)) (refreshed b false (tidied b (node_at b w k))) x (refreshed_alike b m h.spine k false (tidied b (node_at b w k)) x.kept))
+      let x = tidied_alike b m h.kept.spine k (node_at b w k) (ok_at k place e inside) in
+      alike_then b m h.kept.spine k (node_at b w k) (tidied b (node_at b w k)) (refreshed b false (tidied b (node_at b w k))) x (refreshed_alike b m h.kept.spine k false (tidied b (node_at b w k)) x.kept))
 
-  pub kept_if_due : (k : ℕ) (stop : Option Bool) → Kept b m (tidies_if_due b k stop w)
+  pub kept_if_due : (k : ℕ) (stop : Option Bool) → Holds b m s0 (tidies_if_due b k stop w)
   kept_if_due k stop = answer ((node_at b w k).up && is_due b (node_at b w k))
     where
-      answer : (g : Bool) → Kept b m (cond g (tidies b k stop w) w)
+      answer : (g : Bool) → Holds b m s0 (cond g (tidies b k stop w) w)
       answer true = kept_tidies k stop
       answer false = h
 
   -- the same nodes and history, with other things beside them
-  pub refit : (flight : List Message) → All (InFlight b m h.spine w) flight → (cuts : List (ℕ × ℕ)) (hold : Bool) (takes : List Placed) (opened : List LogParts) (all : Bool) (fires : List Placed)
-      → Kept b m (record w { flight = flight; cuts = cuts; hold = hold; takes = takes; opened = opened; all_started = all; fires = fires })
-  refit flight f cuts hold takes opened all fires = record {
-    spine = h.spine;
-    reached = h.reached;
-    nodes = h.nodes;
-    flight = λ i d lt. let y = f i d lt in record { from_node = y.from_node; to_node = y.to_node; other = y.other; claim = y.claim; chunk = y.chunk };
-    history = record { bound = h.history.bound; decided = h.history.decided; long = h.history.long };
+  pub refit : (flight : List Message) → All (InFlight b m h.kept.spine w) flight → (cuts : List (ℕ × ℕ)) (hold : Bool) (fires : List Placed)
+      → Holds b m s0 (record w { flight = flight; cuts = cuts; hold = hold; fires = fires })
+  refit flight f cuts hold fires = record {
+    kept = refit_kept b m w h.kept flight f cuts hold w.takes w.opened w.all_started fires;
+    since = h.since;
+    count = h.count;
+    took = All-weaker (Took b h.kept.spine w) (Took b h.kept.spine (record w { flight = flight; cuts = cuts; hold = hold; fires = fires })) (λ x t. record { led = t.led; within = t.within }) w.takes h.took;
+    differ = h.differ;
   }
 
   without_all : (P : Message → Type 0) (xs : List Message) (place : ℕ) → All P xs → All P (without xs place)
   without_all P xs place f = All-append P (take place xs) (drop (suc place) xs) (All-take P place xs f) (All-drop P (suc place) xs f)
 
-  pub kept_drops : (place : ℕ) → Kept b m (record w { flight = without w.flight place })
-  kept_drops place = refit (without w.flight place) (without_all (InFlight b m h.spine w) w.flight place h.flight) w.cuts w.hold w.takes w.opened w.all_started w.fires
+  pub kept_drops : (place : ℕ) → Holds b m s0 (record w { flight = without w.flight place })
+  kept_drops place = refit (without w.flight place) (without_all (InFlight b m h.kept.spine w) w.flight place h.kept.flight) w.cuts w.hold w.fires
 
-module _ (b : Start) (m : Machine) (fit : IsFit b m) where
-  pub kept_delivers : (w : World) (h : Kept b m w) (place : ℕ) (again : Bool) (stop : Option ℕ) (xs : List Message) → All (InFlight b m h.spine w) xs → Kept b m (delivers b m place again stop xs w)
+-- a leader is one of the nodes
+lead_inside : (b : Start) (w : World) (place : ℕ) → (node_at b w (suc place)).role ≡ Leader → place < length w.nodes
+lead_inside b w place e = inside w.nodes place e
+  where
+    inside : (xs : List Node) (i : ℕ) → (get_or xs i (nobody b)).role ≡ Leader → i < length xs
+    inside [] i e = absurd (let q : Follower ≡ Leader = e in cc)
+    inside (x ∷ xs) zero e = omega arith
+    inside (x ∷ xs) (suc i) e = let r = inside xs i e in omega (arith, r)
+
+-- a history that grows, and what is sent, change no node
+history_at : (b : Start) (v : World) (k : ℕ) (g : Bool) (p : ℕ) (l : List LogEntry) (ms : List Message)
+    → node_at b (record (cond g (record v { placed = p; history = l }) v) { flight = sent (cond g (record v { placed = p; history = l }) v).flight ms }) k ≡ node_at b v k
+history_at b v k true p l ms = refl
+history_at b v k false p l ms = refl
+
+module _ (b : Start) (m : Machine) (s0 : Spine) (fit : IsFit b m) where
+  pub kept_delivers : (w : World) (h : Holds b m s0 w) (place : ℕ) (again : Bool) (stop : Option ℕ) (xs : List Message) → All (InFlight b m h.kept.spine w) xs → Holds b m s0 (delivers b m place again stop xs w)
   unfolding kept_drops refit
   kept_delivers w h place again stop [] f = h
-  kept_delivers w h place true stop (x ∷ xs) f = kept_arrives b m fit w h x.from x.to x.body (All-head (InFlight b m h.spine w) x xs f) stop
+  kept_delivers w h place true stop (x ∷ xs) f = holds_on b m s0 w (arrives b m x stop w) h (kept_arrives b m fit w h.kept x.from x.to x.body (All-head (InFlight b m h.kept.spine w) x xs f) stop)
   kept_delivers w h place false stop (x ∷ xs) f =
-      let y = All-head (InFlight b m h.spine w) x xs f in
+      let y = All-head (InFlight b m h.kept.spine w) x xs f in
       let v : World = record w { flight = without w.flight place } in
-      let k : Kept b m v = kept_drops b m w h place in
-      kept_arrives b m fit v k x.from x.to x.body (moved k refl y) stop
+      let k : Holds b m s0 v = kept_drops b m s0 w h place in
+      holds_on b m s0 v (arrives b m x stop v) k (kept_arrives b m fit v k.kept x.from x.to x.body (moved k refl y) stop)
     where
-      moved : (k : Kept b m (record w { flight = without w.flight place })) → k.spine ≡ h.spine → InFlight b m h.spine w x → InFlight b m k.spine (record w { flight = without w.flight place }) x
+      moved : (k : Holds b m s0 (record w { flight = without w.flight place })) → k.kept.spine ≡ h.kept.spine → InFlight b m h.kept.spine w x → InFlight b m k.kept.spine (record w { flight = without w.flight place }) x
       moved k e y = subst (λ (s : Spine). InFlight b m s (record w { flight = without w.flight place }) x) (sym e)
           (record { from_node = y.from_node; to_node = y.to_node; other = y.other; claim = y.claim; chunk = y.chunk })
 
-  past : (w : World) (h : Kept b m w) (place : ℕ) → (inside : place < length w.nodes) → IsPast (suc place) (node_at b w (suc place)).base (node_at b w (suc place)).applied (core_of b m (suc place) (node_at b w (suc place)))
-  past w h place inside = record { same = refl; base = omega arith; commit = (h.nodes place inside).to_commit }
+  -- an event of a node's own
+  pub holds_own : (w : World) (h : Holds b m s0 w) (place : ℕ) → place < length w.nodes → (event : CoreEvent)
+      → Asked b m.len h.kept.spine (core_of b m (suc place) (node_at b w (suc place))) [] event
+      → Steps (suc place) (node_at b w (suc place)).base (node_at b w (suc place)).applied (on (core_of b m (suc place) (node_at b w (suc place))) event)
+      → (stop : Option ℕ) → Holds b m s0 (own_event b m (suc place) event stop w)
+  holds_own w h place inside event a st stop = holds_on b m s0 w (own_event b m (suc place) event stop w) h (kept_own b m fit w h.kept place inside event a st stop)
 
-  pub kept_timeout : (w : World) (h : Kept b m w) (k : ℕ) (stop : Option ℕ) → Kept b m (cond (node_at b w k).up (own_event b m k TimeoutEvent stop w) w)
+  past : (w : World) (h : Holds b m s0 w) (place : ℕ) → (inside : place < length w.nodes) → IsPast (suc place) (node_at b w (suc place)).base (node_at b w (suc place)).applied (core_of b m (suc place) (node_at b w (suc place)))
+  past w h place inside = record { same = refl; base = omega arith; commit = (h.kept.nodes place inside).to_commit }
+
+  pub kept_timeout : (w : World) (h : Holds b m s0 w) (k : ℕ) (stop : Option ℕ) → Holds b m s0 (cond (node_at b w k).up (own_event b m k TimeoutEvent stop w) w)
   kept_timeout w h zero stop = h
   kept_timeout w h (suc place) stop = answer (node_at b w (suc place)).up refl
     where
-      answer : (g : Bool) → (node_at b w (suc place)).up ≡ g → Kept b m (cond g (own_event b m (suc place) TimeoutEvent stop w) w)
+      answer : (g : Bool) → (node_at b w (suc place)).up ≡ g → Holds b m s0 (cond g (own_event b m (suc place) TimeoutEvent stop w) w)
       answer false e = h
       answer true e =
           let inside = up_inside b w place e in
-          kept_own b m fit w h place inside TimeoutEvent tt
+          holds_own w h place inside TimeoutEvent tt
           (timeout_steps (suc place) (node_at b w (suc place)).base (node_at b w (suc place)).applied (core_of b m (suc place) (node_at b w (suc place))) (past w h place inside)) stop
 
-  pub kept_beat : (w : World) (h : Kept b m w) (k : ℕ) (stop : Option ℕ) → Kept b m (cond ((node_at b w k).up && is_leader (node_at b w k).role) (own_event b m k BeatEvent stop w) w)
+  pub kept_beat : (w : World) (h : Holds b m s0 w) (k : ℕ) (stop : Option ℕ) → Holds b m s0 (cond ((node_at b w k).up && is_leader (node_at b w k).role) (own_event b m k BeatEvent stop w) w)
   kept_beat w h zero stop = h
   kept_beat w h (suc place) stop = answer ((node_at b w (suc place)).up && is_leader (node_at b w (suc place)).role) refl
     where
-      answer : (g : Bool) → ((node_at b w (suc place)).up && is_leader (node_at b w (suc place)).role) ≡ g → Kept b m (cond g (own_event b m (suc place) BeatEvent stop w) w)
+      answer : (g : Bool) → ((node_at b w (suc place)).up && is_leader (node_at b w (suc place)).role) ≡ g → Holds b m s0 (cond g (own_event b m (suc place) BeatEvent stop w) w)
       answer false e = h
       answer true e =
           let y = and_parts (node_at b w (suc place)).up (is_leader (node_at b w (suc place)).role) e in
           let inside = up_inside b w place y.0 in
-          kept_own b m fit w h place inside BeatEvent (leader_role (node_at b w (suc place)).role y.1)
+          holds_own w h place inside BeatEvent (leader_role (node_at b w (suc place)).role y.1)
           (beat_steps (suc place) (node_at b w (suc place)).base (node_at b w (suc place)).applied (core_of b m (suc place) (node_at b w (suc place))) (past w h place inside)) stop
 
-  -- an entry of a leader that has room
-  pub kept_command : (w : World) (h : Kept b m w) (place : ℕ) (e : List ℕ) (stop : Option ℕ) → may_append b (node_at b w (suc place)) ≡ true → Kept b m (own_event b m (suc place) (CommandEvent e) stop w)
+  -- an entry of a leader that has room is one of its term past all that were taken in it
+  taken : (w : World) (h : Holds b m s0 w) (place : ℕ) → place < length w.nodes → (node_at b w (suc place)).role ≡ Leader → (e : List ℕ) (v : World) → Onward b m h.kept.spine w v
+      → ((node_at b v (suc place)).role ≡ Leader → suc (last_of b (node_at b w (suc place))) ≤ last_of b (node_at b v (suc place)))
+      → Holds b m s0 (record v { takes = next_entry b (node_at b w (suc place)) e ∷ v.takes })
+  taken w h place inside lead e v o long =
+      let x = next_entry b (node_at b w (suc place)) e in
+      let hv : Holds b m s0 v = holds_on b m s0 w v h o in
+      record {
+        kept = refit_kept b m v o.kept v.flight o.kept.flight v.cuts v.hold (x ∷ v.takes) v.opened v.all_started v.fires;
+        since = grows_both s0 h.kept.spine o.kept.spine h.since o.grows;
+        count = o.count ∙ h.count;
+        took = All-cons (Took b o.kept.spine (record v { takes = x ∷ v.takes })) x v.takes
+            (record { led = λ z. before (sym now ∙ z); within = λ k l te. let q = here k l te in subst (λ (j : ℕ). x.index ≤ last_of b (node_at b v j)) (sym q) (long (subst (λ (j : ℕ). (node_at b v j).role ≡ Leader) q l)) })
+            (subst (λ (xs : List Placed). All (Took b o.kept.spine (record v { takes = x ∷ v.takes })) xs) (sym o.takes)
+            (All-weaker (Took b h.kept.spine w) (Took b o.kept.spine (record v { takes = x ∷ v.takes }))
+            (λ y t. let u = took_on b m h.kept.spine w v o y t in record { led = u.led; within = u.within }) w.takes h.took));
+        differ = one_differs v x (differs_on b m s0 w v h o)
+            (subst (λ (xs : List Placed). All (λ (y : Placed). y.term ≡ x.term → y.index < x.index) xs) (sym o.takes)
+            (All-weaker (Took b h.kept.spine w) (λ (y : Placed). y.term ≡ x.term → y.index < x.index)
+            (λ y t q. let l = t.within (suc place) lead (sym q) in (let r : y.index < suc (last_of b (node_at b w (suc place))) = omega (arith, l) in r)) w.takes h.took));
+      }
+    where
+      leads : h.kept.spine.leader (node_at b w (suc place)).term ≡ suc place
+      leads = ((h.kept.nodes place inside).tied.leading lead).leads
+
+      before : h.kept.spine.leader (node_at b w (suc place)).term ≢ 0
+      before z = let q = sym leads ∙ z in (let r : ⊥ = omega (arith, q) in r)
+
+      now : o.kept.spine.leader (node_at b w (suc place)).term ≡ h.kept.spine.leader (node_at b w (suc place)).term
+      now = o.grows.leader (node_at b w (suc place)).term before
+
+      here : (k : ℕ) → (node_at b v k).role ≡ Leader → (node_at b v k).term ≡ (node_at b w (suc place)).term → k ≡ suc place
+      here zero l te = absurd (let q : Follower ≡ Leader = l in cc)
+      here (suc q) l te =
+          let c = (o.kept.nodes q (lead_inside b v q l)).tied.leading l in
+          sym c.leads ∙ (ap o.kept.spine.leader te ∙ (now ∙ leads))
+
+  -- the node after its entry was appended
+  after_entry : (w : World) (h : Holds b m s0 w) (place : ℕ) → place < length w.nodes → (e : List ℕ) (stop : Option ℕ)
+      → (node_at b (own_event b m (suc place) (CommandEvent e) stop w) (suc place)).role ≡ Leader
+      → suc (last_of b (node_at b w (suc place))) ≤ last_of b (node_at b (own_event b m (suc place) (CommandEvent e) stop w) (suc place))
+  after_entry w h place inside e (Some j) l =
+      let n = node_at b w (suc place) in
+      let z = with_node_same b w place (halted b [] n (kept j (on (core_of b m (suc place) n) (CommandEvent e)).items)) inside in
+      absurd (let q : Follower ≡ Leader = ap (λ (x : Node). x.role) (sym z) ∙ l in cc)
+  after_entry w h place inside e None l =
+      let n = node_at b w (suc place) in
+      let o = on (core_of b m (suc place) n) (CommandEvent e) in
+      let n' = ended b m [] n n.held o in
+      let v : World = with_node (suc place) n' w in
+      let z : node_at b (own_event b m (suc place) (CommandEvent e) None w) (suc place) ≡ n' =
+      history_at b v (suc place) (nat_le (applied_before n n'.base) w.placed && nat_lt w.placed n'.applied) n'.applied (w.history ++ take (n'.applied - w.placed) (drop (w.placed - b.base) n'.whole)) o.messages
+      ∙ with_node_same b w place n' inside in
+      let t = (h.kept.nodes place inside).tied in
+      let lo = t.based in let kn = t.known in let sh = t.short in
+      let ld = length-drop (n.base - b.base) n.whole in
+      let y = one_longer b [] n.whole ((n.term == o.core.term) && (n.vote == o.core.vote)) (suc (last_index (log_of b n))) n.term o.core.vote o.core.term e (omega (arith, lo, kn, sh, ld)) in
+      let r : suc (last_of b n) ≤ last_of b n' = omega (arith, y) in
+      subst (λ (x : Node). suc (last_of b n) ≤ last_of b x) (sym z) r
+
+  pub kept_command : (w : World) (h : Holds b m s0 w) (place : ℕ) (e : List ℕ) (stop : Option ℕ) → may_append b (node_at b w (suc place)) ≡ true
+      → Holds b m s0 (let v = own_event b m (suc place) (CommandEvent e) stop w in record v { takes = next_entry b (node_at b w (suc place)) e ∷ v.takes })
   kept_command w h place e stop q =
       let n = node_at b w (suc place) in
       let y = and_parts n.up (is_leader n.role && nat_lt (last_of b n) MAX_INDEX) q in
       let z = and_parts (is_leader n.role) (nat_lt (last_of b n) MAX_INDEX) y.1 in
       let inside = up_inside b w place y.0 in
-      kept_own b m fit w h place inside (CommandEvent e) (leader_role n.role z.0) (own_steps (suc place) n.base n.applied (core_of b m (suc place) n) e (past w h place inside)) stop
+      let lead = leader_role n.role z.0 in
+      let v = own_event b m (suc place) (CommandEvent e) stop w in
+      taken w h place inside lead e v (kept_own b m fit w h.kept place inside (CommandEvent e) lead (own_steps (suc place) n.base n.applied (core_of b m (suc place) n) e (past w h place inside)) stop)
+      (after_entry w h place inside e stop)
 
-  pub kept_fire : (w : World) (h : Kept b m w) (place : ℕ) (e : List ℕ) (stop : Option ℕ) → may_append b (node_at b w (suc place)) ≡ true → Kept b m (own_event b m (suc place) (FireEvent e) stop w)
+  pub kept_fire : (w : World) (h : Holds b m s0 w) (place : ℕ) (e : List ℕ) (stop : Option ℕ) → may_append b (node_at b w (suc place)) ≡ true → Holds b m s0 (own_event b m (suc place) (FireEvent e) stop w)
   kept_fire w h place e stop q =
       let n = node_at b w (suc place) in
       let y = and_parts n.up (is_leader n.role && nat_lt (last_of b n) MAX_INDEX) q in
       let z = and_parts (is_leader n.role) (nat_lt (last_of b n) MAX_INDEX) y.1 in
       let inside = up_inside b w place y.0 in
-      kept_own b m fit w h place inside (FireEvent e) (leader_role n.role z.0) (fire_steps (suc place) n.base n.applied (core_of b m (suc place) n) e (past w h place inside)) stop
-
-  pub retake : (v : World) → Kept b m v → (takes fires : List Placed) → Kept b m (record v { takes = takes; fires = fires })
-  retake v k takes fires = refit b m v k v.flight k.flight v.cuts v.hold takes v.opened v.all_started fires
+      holds_own w h place inside (FireEvent e) (leader_role n.role z.0) (fire_steps (suc place) n.base n.applied (core_of b m (suc place) n) e (past w h place inside)) stop

@@ -1,5 +1,5 @@
 -- What holds of every world that events reach, and that a node's moves keep it.
-use Rattle.std.proofs.Common.{◌≡◌, ◌≢◌, ℕ, zero, suc, ◌+◌, ◌-◌, ◌<◌, ◌≤◌, true, false, All, List, [], ◌∷◌, ◌++◌, length, take, get_or, set, refl, sym, ap, ◌∙◌, subst, arith, ◌⊎◌, inl, inr, ⊎_elim}
+use Rattle.std.proofs.Common.{◌≡◌, ◌≢◌, ℕ, zero, suc, ◌+◌, ◌-◌, ◌<◌, ◌≤◌, true, false, All, List, [], ◌∷◌, ◌++◌, length, take, get_or, set, ◌==◌, refl, sym, ap, ◌∙◌, subst, arith, ◌⊎◌, inl, inr, ⊎_elim}
 use Rattle.std.specs.Prelude.{⊤}
 use Rattle.std.proofs.lemmas.Bool.{cases_eq}
 use Rattle.raft_types.specs.declared.entry.LogEntry.{LogEntry}
@@ -13,15 +13,21 @@ use Rattle.raft_spine.specs.Moves.{Move, actor, CanAll, moved_all}
 use Rattle.raft_spine.specs.Laws.{Grows, IsReached}
 use Rattle.raft_spine.specs.Decided.{Decided}
 use Rattle.raft_spine.proofs.Run.{can_both, moved_both, reached_sound}
-use Rattle.raft_spine.proofs.Grow.{front_stays, moves_grow, decided_stays}
-use Rattle.raft_spine.proofs.Fronts.{agree_down}
+use Rattle.raft_spine.proofs.Grow.{grows_same, front_stays, moves_grow, decided_stays}
+use Rattle.raft_spine.proofs.Fronts.{agree_down, front_fits}
 use Rattle.raft_spine.proofs.Others.{leaves_all}
+use Rattle.raft_spine.proofs.Sound.{Sound}
+use Rattle.raft_spine.proofs.Votes.{elected_stood}
+use Rattle.raft_spine.specs.Quorum.{IsQuorum}
+use Rattle.raft_types.specs.declared.state.Role.{Role}
+use Rattle.raft_types.specs.declared.state.Role.TheVariants.{Follower, Candidate, Leader}
 use Rattle.raft_claims.specs.Claims.{Claim}
 use Rattle.raft_claims.specs.Tied.{Tied}
 use Rattle.raft_claims.proofs.Claims.{claim_stays}
 use Rattle.raft_claims.proofs.Turns.{tied_stays}
-use Rattle.cluster_world.specs.World.{Machine, Held, Node, World, nobody, core_of, node_at}
+use Rattle.cluster_world.specs.World.{Machine, Held, Node, World, nobody, core_of, last_of, node_at}
 use Rattle.cluster_world.specs.Events.{with_node}
+use Rattle.cluster_world.proofs.Roles.{LeadsHow}
 
 -- the bytes held of a snapshot are no more than it has; what it stands for is decided
 pub record HeldOf (b : Start) (len : List LogEntry → ℕ) (s : Spine) (h : Held) : Type 0 where
@@ -83,7 +89,7 @@ get_other (x ∷ xs) zero (suc k) v d h = refl
 get_other (x ∷ xs) (suc i) zero v d h = refl
 get_other (x ∷ xs) (suc i) (suc k) v d h = get_other xs i k v d (λ e. h (ap suc e))
 
-length_set : {A : Type 0} (xs : List A) (i : ℕ) (v : A) → length (set xs i v) ≡ length xs
+pub length_set : {A : Type 0} (xs : List A) (i : ℕ) (v : A) → length (set xs i v) ≡ length xs
 length_set [] i v = refl
 length_set (x ∷ xs) zero v = refl
 length_set (x ∷ xs) (suc i) v = ap suc (length_set xs i v)
@@ -122,6 +128,64 @@ chunk_stays b len s s' g from to n n' (Chunk t i bt off total bytes) c o lo f =
     (omega arith, agree_down (i - b.base) (n.base - b.base) n'.whole n.whole (omega arith) f ∙ (o.1 ∙ sym (front_stays s s' g t (i - b.base) c.led (omega arith))))
 chunk_stays b len s s' g from to n n' (ChunkReply t i off) c o lo f = tt
 
+-- who leads after a change led the same term before, with a log no longer, or that term had no leader
+abbrev pub Further : Start → Spine → Node → Node → Type 0
+Further b s n n' = n'.role ≡ Leader → ((n.role ≡ Leader) × ((n.term ≡ n'.term) × (last_of b n ≤ last_of b n'))) ⊎ (s.leader n'.term ≡ 0)
+
+pub further_same : (b : Start) (s : Spine) (n : Node) → Further b s n n
+further_same b s n = λ e. inl (e, (refl, omega arith))
+
+role_is : (r : Role) → r ≢ Follower → (r ≡ Leader) ⊎ (r ≡ Candidate)
+role_is Follower d = absurd (d refl)
+role_is Candidate d = inr refl
+role_is Leader d = inl refl
+
+-- a node is no leader of a term to which it has not come
+not_ahead : (b : Start) (s : Spine) → Sound b s → (k t : ℕ) → k ≢ 0 → s.term k < t → s.leader t ≢ k
+not_ahead b s sound k t nz lt e =
+    let el = sound.elected t (λ z. nz (sym e ∙ z)) in
+    let o = elected_stood b s sound k t nz el.late (subst (λ (j : ℕ). IsQuorum b.members (λ i. s.voted i t == j)) e el.votes) in
+    let v = (sound.candidates k t o.0 o.1).own_vote in
+    nz (sym v ∙ sound.voted_past k t lt)
+
+-- a leader of a term had that term's log before, if it led then, or it is the term's first leader
+further_by : (b : Start) (m : Machine) (s s' : Spine) → Sound b s → Sound b s' → Grows s s' → (k : ℕ) (n n' : Node) → NodeKept b m s k n → NodeKept b m s' k n'
+    → LeadsHow n.role n.term n'.role n'.term → Further b s n n'
+further_by b m s s' sound sound' g k n n' ok ok' how lead = ⊎_elim
+    (λ (x : (n.role ≢ Follower) × (n'.term ≡ n.term)). ⊎_elim
+    (λ (r : n.role ≡ Leader). inl (r, (sym x.1, longer r (sym x.1))))
+    (λ (r : n.role ≡ Candidate). inr (free (λ q. (ok.tied.standing r).not_yet (ap s.leader (sym x.1) ∙ q))))
+    (role_is n.role x.0))
+    (λ (x : n'.term ≡ suc n.term). let tn = ok.tied.term in inr (free (not_ahead b s sound k n'.term ok.tied.is_node (omega (arith, x, tn)))))
+    (how lead)
+  where
+    now : s'.leader n'.term ≡ k
+    now = (ok'.tied.leading lead).leads
+
+    free : s.leader n'.term ≢ k → s.leader n'.term ≡ 0
+    free d = ⊎_elim (λ (z : s.leader n'.term ≡ 0). z) (λ (z : s.leader n'.term ≢ 0). absurd (d (sym (g.leader n'.term z) ∙ now))) (cases_eq (s.leader n'.term) 0)
+
+    longer : n.role ≡ Leader → n.term ≡ n'.term → last_of b n ≤ last_of b n'
+    longer r e =
+        let nz = ok.tied.is_node in
+        let before : s.leader n.term ≡ k = (ok.tied.leading r).leads in
+        let mine : s.leader_log n.term ≡ n.whole = ap s.leader_log (sym ok.tied.term) ∙ (sym (sound.own_log k nz (ap s.leader ok.tied.term ∙ before)) ∙ ok.tied.log) in
+        let mine' : s'.leader_log n'.term ≡ n'.whole = ap s'.leader_log (sym ok'.tied.term) ∙ (sym (sound'.own_log k nz (ap s'.leader ok'.tied.term ∙ now)) ∙ ok'.tied.log) in
+        let f = front_fits (s.leader_log n.term) (s'.leader_log n.term) (g.leader_log n.term (λ z. nz (sym before ∙ z))) in
+        let la = ap length mine in let lb = ap length (ap s'.leader_log e ∙ mine') in
+        omega (arith, f, la, lb)
+
+-- a world that an event, or a part of one, makes of another
+pub record Onward (b : Start) (m : Machine) (s : Spine) (w w' : World) : Type 0 where
+  pub kept : Kept b m w'
+  pub grows : Grows s kept.spine
+  pub count : length w'.nodes ≡ length w.nodes
+  pub further : (k : ℕ) → Further b s (node_at b w k) (node_at b w' k)
+  pub takes : w'.takes ≡ w.takes
+
+pub onward_same : (b : Start) (m : Machine) (w : World) (h : Kept b m w) → Onward b m h.spine w w
+onward_same b m w h = record { kept = h; grows = grows_same h.spine; count = refl; further = λ k. further_same b h.spine (node_at b w k); takes = refl }
+
 -- what becomes of a node by its own moves
 pub record Becomes (b : Start) (m : Machine) (s : Spine) (k : ℕ) (n n' : Node) : Type 0 where
   pub moves : List Move
@@ -130,6 +194,7 @@ pub record Becomes (b : Start) (m : Machine) (s : Spine) (k : ℕ) (n n' : Node)
   pub kept : NodeKept b m (moved_all moves s) k n'
   pub base : n.base ≤ n'.base
   pub front : take (n.base - b.base) n'.whole ≡ take (n.base - b.base) n.whole
+  pub how : LeadsHow n.role n.term n'.role n'.term
 
 pub reached_more : (b : Start) (s : Spine) (ms : List Move) → IsReached b s → CanAll b s ms → IsReached b (moved_all ms s)
 reached_more b s ms r c = record {
@@ -146,7 +211,7 @@ module _ (b : Start) (m : Machine) (w : World) (h : Kept b m w) (place : ℕ) (i
   abbrev pub then_world : World
   then_world = with_node (suc place) n' w
 
-  grown : Grows h.spine (moved_all x.moves h.spine)
+  pub grown : Grows h.spine (moved_all x.moves h.spine)
   grown = moves_grow b h.reached.start.low h.spine (reached_sound b h.spine h.reached) x.moves x.can
 
   other_stays : (k : ℕ) → k ≢ suc place → NodeKept b m h.spine k (node_at b w k) → NodeKept b m (moved_all x.moves h.spine) k (node_at b w k)
@@ -207,3 +272,16 @@ module _ (b : Start) (m : Machine) (w : World) (h : Kept b m w) (place : ℕ) (i
         flight = flight_then;
         history = record { bound = y.bound; decided = y.decided; long = y.long };
       }
+
+  pub further_there : (k : ℕ) → Further b h.spine (node_at b w k) (node_at b (with_node (suc place) n' w) k)
+  further_there k = ⊎_elim
+      (λ (e : k ≡ suc place).
+      subst (λ (j : ℕ). Further b h.spine (node_at b w j) (node_at b (with_node (suc place) n' w) j)) (sym e)
+      (subst (λ (n : Node). Further b h.spine (node_at b w (suc place)) n) (sym (with_node_same b w place n' inside))
+      (further_by b m h.spine (moved_all x.moves h.spine) (reached_sound b h.spine h.reached) (reached_sound b (moved_all x.moves h.spine) (reached_more b h.spine x.moves h.reached x.can)) grown (suc place)
+      (node_at b w (suc place)) n' (h.nodes place inside) x.kept x.how)))
+      (λ (d : k ≢ suc place). subst (λ (n : Node). Further b h.spine (node_at b w k) n) (sym (with_node_other b w place n' k d)) (further_same b h.spine (node_at b w k)))
+      (cases_eq k (suc place))
+
+  abbrev pub onward_node : Onward b m h.spine w (with_node (suc place) n' w)
+  onward_node = record { kept = kept_node; grows = grown; count = length_set w.nodes place n'; further = further_there; takes = refl }

@@ -1,6 +1,8 @@
 pub mod Steps
+pub mod Roles
 pub mod Keeping
 pub mod NodeEvents
+pub mod Holding
 pub mod Worlds
 pub mod Happens
 pub mod Opens

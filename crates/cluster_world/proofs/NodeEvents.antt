@@ -32,7 +32,9 @@ use Rattle.cluster_world.specs.World.{Machine, Held, nothing_held, Node, World, 
 use Rattle.cluster_world.specs.Node.{applies, ended, halted}
 use Rattle.cluster_world.specs.Events.{with_node, MAX_IN_FLIGHT, sent, grows_by}
 use Rattle.cluster_world.proofs.Steps.{OwnChunk, Goes, Steps}
-use Rattle.cluster_world.proofs.Keeping.{HeldOf, NodeKept, ChunkOf, InFlight, HistoryKept, Kept, Becomes, kept_node, with_node_same}
+use Rattle.cluster_world.proofs.Roles.{LeadsHow}
+use Rattle.raft_types.specs.declared.state.Role.TheVariants.{Follower, Leader}
+use Rattle.cluster_world.proofs.Keeping.{HeldOf, NodeKept, ChunkOf, InFlight, HistoryKept, Kept, Onward, Becomes, kept_node, onward_node, with_node_same}
 
 -- items that don't start the log anew leave its base
 base_stays : (l : LogParts) (items : List Item) → starts_anew items ≡ false → (log_after l items).base ≡ l.base
@@ -83,9 +85,10 @@ module _ (b : Start) (m : Machine) (s : Spine) (k : ℕ) (n : Node) (ok : NodeKe
       (same_id (core_of b m k n) event) (same_nodes (core_of b m k n) event) q.tied.stands_for q.tied.size
 
   abbrev ended_becomes : (held : Held) → (q : Turned b m.len s (core_of b m k n) n.whole (on (core_of b m k n) event) (whole_after b sender n.whole (on (core_of b m k n) event).items))
-      → Steps k n.base n.applied (on (core_of b m k n) event) → (held.count ≡ 0) ⊎ HeldOf b m.len (moved_all q.moves s) held
+      → Steps k n.base n.applied (on (core_of b m k n) event) → LeadsHow n.role n.term (on (core_of b m k n) event).core.role (on (core_of b m k n) event).core.term
+      → (held.count ≡ 0) ⊎ HeldOf b m.len (moved_all q.moves s) held
       → Becomes b m s k n (ended b m sender n held (on (core_of b m k n) event))
-  ended_becomes held q st hk =
+  ended_becomes held q st how hk =
       let o = on (core_of b m k n) event in
       let after = whole_after b sender n.whole o.items in
       let before = max n.applied o.core.log.base in
@@ -105,6 +108,7 @@ module _ (b : Start) (m : Machine) (s : Spine) (k : ℕ) (n : Node) (ok : NodeKe
         };
         base = st.past.base;
         front = q.front;
+        how = λ e. how e;
       }
     where
       chosen : (g : Bool) (s' : Spine) → (held.count ≡ 0) ⊎ HeldOf b m.len s' held → ((cond g nothing_held held).count ≡ 0) ⊎ HeldOf b m.len s' (cond g nothing_held held)
@@ -177,6 +181,7 @@ module _ (b : Start) (m : Machine) (s : Spine) (k : ℕ) (n : Node) (ok : NodeKe
         };
         base = low j (on c event).items refl;
         front = q.front;
+        how = λ e. absurd (let q : Follower ≡ Leader = e in cc);
       }
     where
       low : (j : ℕ) (items : List Item) → items ≡ (on (core_of b m k n) event).items → n.base ≤ (log_after (log_of b n) (kept j items)).base
@@ -234,28 +239,40 @@ history_grows b m s sound w h k n n' ok lo at = answer (nat_le (max n.applied n'
         }
 
 -- a world with more in flight, and with a history that may have grown
-with_history : (b : Start) (m : Machine) (v : World) (k : Kept b m v) (g : Bool) (p : ℕ) (l : List LogEntry) (ms : List Message) → All (InFlight b m k.spine v) ms
-    → HistoryKept b k.spine (cond g (record v { placed = p; history = l }) v)
-    → Kept b m (record (cond g (record v { placed = p; history = l }) v) { flight = sent (cond g (record v { placed = p; history = l }) v).flight ms })
-with_history b m v k true p l ms said hist = record {
-  spine = k.spine;
-  reached = k.reached;
-  nodes = k.nodes;
-  flight = sent_all (InFlight b m k.spine (record v { placed = p; history = l; flight = sent v.flight ms })) v.flight ms (λ i d lt. again (get_or v.flight i d) (k.flight i d lt)) (λ i d lt. again (get_or ms i d) (said i d lt));
-  history = record { bound = hist.bound; decided = hist.decided; long = hist.long };
+with_history : (b : Start) (m : Machine) (s : Spine) (w v : World) (o : Onward b m s w v) (g : Bool) (p : ℕ) (l : List LogEntry) (ms : List Message) → All (InFlight b m o.kept.spine v) ms
+    → HistoryKept b o.kept.spine (cond g (record v { placed = p; history = l }) v)
+    → Onward b m s w (record (cond g (record v { placed = p; history = l }) v) { flight = sent (cond g (record v { placed = p; history = l }) v).flight ms })
+with_history b m s w v o true p l ms said hist = record {
+  kept = record {
+    spine = o.kept.spine;
+    reached = o.kept.reached;
+    nodes = o.kept.nodes;
+    flight = sent_all (InFlight b m o.kept.spine (record v { placed = p; history = l; flight = sent v.flight ms })) v.flight ms (λ i d lt. again (get_or v.flight i d) (o.kept.flight i d lt)) (λ i d lt. again (get_or ms i d) (said i d lt));
+    history = record { bound = hist.bound; decided = hist.decided; long = hist.long };
+  };
+  grows = o.grows;
+  count = o.count;
+  further = o.further;
+  takes = o.takes;
 }
   where
-    again : (x : Message) → InFlight b m k.spine v x → InFlight b m k.spine (record v { placed = p; history = l; flight = sent v.flight ms }) x
+    again : (x : Message) → InFlight b m o.kept.spine v x → InFlight b m o.kept.spine (record v { placed = p; history = l; flight = sent v.flight ms }) x
     again x f = record { from_node = f.from_node; to_node = f.to_node; other = f.other; claim = f.claim; chunk = f.chunk }
-with_history b m v k false p l ms said hist = record {
-  spine = k.spine;
-  reached = k.reached;
-  nodes = k.nodes;
-  flight = sent_all (InFlight b m k.spine (record v { flight = sent v.flight ms })) v.flight ms (λ i d lt. again (get_or v.flight i d) (k.flight i d lt)) (λ i d lt. again (get_or ms i d) (said i d lt));
-  history = record { bound = hist.bound; decided = hist.decided; long = hist.long };
+with_history b m s w v o false p l ms said hist = record {
+  kept = record {
+    spine = o.kept.spine;
+    reached = o.kept.reached;
+    nodes = o.kept.nodes;
+    flight = sent_all (InFlight b m o.kept.spine (record v { flight = sent v.flight ms })) v.flight ms (λ i d lt. again (get_or v.flight i d) (o.kept.flight i d lt)) (λ i d lt. again (get_or ms i d) (said i d lt));
+    history = record { bound = hist.bound; decided = hist.decided; long = hist.long };
+  };
+  grows = o.grows;
+  count = o.count;
+  further = o.further;
+  takes = o.takes;
 }
   where
-    again : (x : Message) → InFlight b m k.spine v x → InFlight b m k.spine (record v { flight = sent v.flight ms }) x
+    again : (x : Message) → InFlight b m o.kept.spine v x → InFlight b m o.kept.spine (record v { flight = sent v.flight ms }) x
     again x f = record { from_node = f.from_node; to_node = f.to_node; other = f.other; claim = f.claim; chunk = f.chunk }
 
 -- the world after a node became another one, with what it sent and applied
@@ -264,10 +281,11 @@ after_node b k n n' ms w = (let v = grows_by b n n' (with_node k n' w) in record
 
 pub kept_after : (b : Start) (m : Machine) (w : World) → (h : Kept b m w) → (place : ℕ) → (inside : place < length w.nodes) → (n : Node) → b.base ≤ n.base → n.base ≤ n.applied → (n' : Node)
     → (x : Becomes b m h.spine (suc place) (node_at b w (suc place)) n') → (ms : List Message) → All (InFlight b m (moved_all x.moves h.spine) (with_node (suc place) n' w)) ms
-    → Kept b m (after_node b (suc place) n n' ms w)
+    → Onward b m h.spine w (after_node b (suc place) n n' ms w)
 kept_after b m w h place inside n lo at n' x ms said =
+    let o = onward_node b m w h place inside n' x in
     let h1 = kept_node b m w h place inside n' x in
-    with_history b m (with_node (suc place) n' w) h1 (nat_le (max n.applied n'.base) w.placed && nat_lt w.placed n'.applied) n'.applied
+    with_history b m h.spine w (with_node (suc place) n' w) o (nat_le (max n.applied n'.base) w.placed && nat_lt w.placed n'.applied) n'.applied
     (w.history ++ take (n'.applied - w.placed) (drop (w.placed - b.base) n'.whole)) ms said
     (history_grows b m h1.spine (reached_sound b h1.spine h1.reached) (with_node (suc place) n' w) h1.history (suc place) n n' x.kept lo at)
 
@@ -283,25 +301,27 @@ module _ (b : Start) (m : Machine) (w : World) (h : Kept b m w) (place : ℕ) (i
     kept = x.kept;
     base = subst (λ (y : Node). y.base ≤ n'.base) (sym is) x.base;
     front = subst (λ (y : Node). take (y.base - b.base) n'.whole ≡ take (y.base - b.base) y.whole) (sym is) x.front;
+    how = subst (λ (y : Node). LeadsHow y.role y.term n'.role n'.term) (sym is) x.how;
   }
 
   -- where the node stops
   pub kept_stopped : (j : ℕ)
       → Stopped b m.len h.spine (core_of b m (suc place) n) n.whole (on (core_of b m (suc place) n) event) (kept j (on (core_of b m (suc place) n) event).items) (whole_after b sender n.whole (kept j (on (core_of b m (suc place) n) event).items))
       → Steps (suc place) n.base n.applied (on (core_of b m (suc place) n) event)
-      → Kept b m (with_node (suc place) (halted b sender n (kept j (on (core_of b m (suc place) n) event).items)) w)
+      → Onward b m h.spine w (with_node (suc place) (halted b sender n (kept j (on (core_of b m (suc place) n) event).items)) w)
   kept_stopped j q st =
-      kept_node b m w h place inside (halted b sender n (kept j (on (core_of b m (suc place) n) event).items))
+      onward_node b m w h place inside (halted b sender n (kept j (on (core_of b m (suc place) n) event).items))
       (here (halted b sender n (kept j (on (core_of b m (suc place) n) event).items)) (halted_becomes b m h.spine (suc place) n ok_here sender event j q st))
 
   -- where it ends the event
   pub kept_ended : (held : Held) → (q : Turned b m.len h.spine (core_of b m (suc place) n) n.whole (on (core_of b m (suc place) n) event) (whole_after b sender n.whole (on (core_of b m (suc place) n) event).items))
-      → Steps (suc place) n.base n.applied (on (core_of b m (suc place) n) event) → (held.count ≡ 0) ⊎ HeldOf b m.len (moved_all q.moves h.spine) held
-      → Kept b m (after_node b (suc place) n (ended b m sender n held (on (core_of b m (suc place) n) event)) (on (core_of b m (suc place) n) event).messages w)
-  kept_ended held q st hk =
+      → Steps (suc place) n.base n.applied (on (core_of b m (suc place) n) event)
+      → LeadsHow n.role n.term (on (core_of b m (suc place) n) event).core.role (on (core_of b m (suc place) n) event).core.term → (held.count ≡ 0) ⊎ HeldOf b m.len (moved_all q.moves h.spine) held
+      → Onward b m h.spine w (after_node b (suc place) n (ended b m sender n held (on (core_of b m (suc place) n) event)) (on (core_of b m (suc place) n) event).messages w)
+  kept_ended held q st how hk =
       let n' = ended b m sender n held (on (core_of b m (suc place) n) event) in
-      let x = ended_becomes b m h.spine (suc place) n ok_here sender event held q st hk in
-      let y : Becomes b m h.spine (suc place) n n' = record { moves = q.moves; mine = q.mine; can = q.can; kept = x.kept; base = x.base; front = x.front } in
+      let x = ended_becomes b m h.spine (suc place) n ok_here sender event held q st how hk in
+      let y : Becomes b m h.spine (suc place) n n' = record { moves = q.moves; mine = q.mine; can = q.can; kept = x.kept; base = x.base; front = x.front; how = x.how } in
       kept_after b m w h place inside n ok_here.tied.based ok_here.from_base n' (here n' y) (on (core_of b m (suc place) n) event).messages
       (said_flight b m h.spine (suc place) n ok_here sender event held q (moves_sound b h.reached.start.low h.spine (reached_sound b h.spine h.reached) q.moves q.can) st (with_node (suc place) n' w)
       (with_node_same b w place n' inside))

@@ -1,7 +1,7 @@
 -- The opening of a world.
 use Rattle.std.proofs.Common.{◌≡◌, ◌≢◌, ℕ, zero, suc, ◌-◌, ◌<◌, ◌≤◌, max, Bool, true, false, cond, ◌&&◌, nat_lt, nat_le, ◌==◌, List, [], ◌∷◌, ◌++◌, length, take, drop, get_or, map, Option, Some, None, refl, sym, ap, ◌∙◌, subst, arith, ◌⊎◌, inl, inr, ⊎_elim, length-take, length-take-le}
 use Rattle.std.proofs.lemmas.Bool.{cases_lt, cases_eq, eqb-true, eq-eqb, and_parts}
-use Rattle.std.proofs.lemmas.List.Elements.{All-nil}
+use Rattle.std.proofs.lemmas.List.Elements.{All-nil, All-weaker}
 use Rattle.raft_types.specs.declared.entry.LogEntry.{LogEntry}
 use Rattle.raft_types.specs.declared.event.CoreEvent.TheVariants.{Raise as RaiseEvent}
 use Rattle.raft_types.specs.declared.state.Role.TheVariants.{Follower}
@@ -10,6 +10,7 @@ use Rattle.raft_types.specs.Core.{CoreParts, quiet}
 use Rattle.raft_types.specs.Step.{on}
 use Rattle.raft_spine.specs.Start.{Start}
 use Rattle.raft_spine.specs.Decided.{Decided}
+use Rattle.raft_spine.specs.Spine.{Spine}
 use Rattle.raft_claims.proofs.Stores.{tied_stops}
 use Rattle.cluster_world.specs.World.{Machine, Node, World, nodes_of, nobody, log_of, core_of, refreshed, node_at}
 use Rattle.cluster_world.specs.Node.{applied_before, ended, is_due, tidied, tidied_if_due}
@@ -17,8 +18,9 @@ use Rattle.cluster_world.specs.Events.{Opening, with_node, own_event, tidies, ti
 use Rattle.cluster_world.specs.Facts.{IsFit}
 use Rattle.cluster_world.proofs.Steps.{raise_steps}
 use Rattle.cluster_world.proofs.Keeping.{NodeKept, InFlight, Kept, up_inside, with_node_same, with_node_other}
-use Rattle.cluster_world.proofs.Worlds.{kept_own, refreshed_kept}
-use Rattle.cluster_world.proofs.Happens.{kept_starts, kept_fails, kept_if_due, set_past}
+use Rattle.cluster_world.proofs.Worlds.{refreshed_kept}
+use Rattle.cluster_world.proofs.Holding.{Took, Holds}
+use Rattle.cluster_world.proofs.Happens.{holds_own, kept_starts, kept_fails, kept_if_due, set_past}
 
 -- all nodes are followers
 abbrev pub AllFollow : Start → World → Type 0
@@ -42,25 +44,25 @@ due_follow b n e = answer (is_due b n)
     answer false = e
 
 -- a world that opens
-record Opens (b : Start) (m : Machine) (w : World) : Type 0 where
-  kept : Kept b m w
+record Opens (b : Start) (m : Machine) (s0 : Spine) (w : World) : Type 0 where
+  kept : Holds b m s0 w
   follow : AllFollow b w
 
 fails_follow : (b : Start) (w : World) → AllFollow b w → (k : ℕ) (replaced : Bool) → AllFollow b (fails_to_start b k replaced w)
 fails_follow b w f k true = follow_put b w f k (refreshed b false (tidied_if_due b (refreshed b false (node_at b w k)))) refl
 fails_follow b w f k false = follow_put b w f k (refreshed b false (node_at b w k)) refl
 
-all_starts : (b : Start) (m : Machine) (openings : List Opening) (ks : List ℕ) (w : World) → Opens b m w → Opens b m (all_start b openings ks w)
-all_starts b m openings [] w o = o
-all_starts b m openings (k ∷ ks) w o =
-    all_starts b m openings ks (cond (opening_of openings k).starts (starts b k w) (fails_to_start b k (opening_of openings k).replaced w)) (answer (opening_of openings k).starts (opening_of openings k).replaced)
+all_starts : (b : Start) (m : Machine) (s0 : Spine) (openings : List Opening) (ks : List ℕ) (w : World) → Opens b m s0 w → Opens b m s0 (all_start b openings ks w)
+all_starts b m s0 openings [] w o = o
+all_starts b m s0 openings (k ∷ ks) w o =
+    all_starts b m s0 openings ks (cond (opening_of openings k).starts (starts b k w) (fails_to_start b k (opening_of openings k).replaced w)) (answer (opening_of openings k).starts (opening_of openings k).replaced)
   where
-    answer : (g r : Bool) → Opens b m (cond g (starts b k w) (fails_to_start b k r w))
+    answer : (g r : Bool) → Opens b m s0 (cond g (starts b k w) (fails_to_start b k r w))
     answer true r = record {
-      kept = kept_starts b m w o.kept k;
+      kept = kept_starts b m s0 w o.kept k;
       follow = follow_put b w o.follow k (tidied_if_due b (refreshed b true (node_at b w k))) (due_follow b (refreshed b true (node_at b w k)) refl);
     }
-    answer false r = record { kept = kept_fails b m w o.kept k r; follow = fails_follow b w o.follow k r }
+    answer false r = record { kept = kept_fails b m s0 w o.kept k r; follow = fails_follow b w o.follow k r }
 
 if_due_follow : (b : Start) (w : World) → AllFollow b w → (k : ℕ) (stop : Option Bool) → AllFollow b (tidies_if_due b k stop w)
 if_due_follow b w f k stop = answer ((node_at b w k).up && is_due b (node_at b w k)) stop
@@ -71,7 +73,7 @@ if_due_follow b w f k stop = answer ((node_at b w k).up && is_due b (node_at b w
     answer true (Some false) = follow_put b w f k (refreshed b false (node_at b w k)) refl
     answer true (Some true) = follow_put b w f k (refreshed b false (tidied b (node_at b w k))) refl
 
-module _ (b : Start) (m : Machine) (fit : IsFit b m) (openings : List Opening) (term : ℕ) where
+module _ (b : Start) (m : Machine) (s0 : Spine) (fit : IsFit b m) (openings : List Opening) (term : ℕ) where
   raise_follow : (w : World) → AllFollow b w → (place : ℕ) (stop : Option ℕ) → AllFollow b (own_event b m (suc place) (RaiseEvent term) stop w)
   raise_follow w f place (Some j) = follow_put b w f (suc place) _ refl
   raise_follow w f place None =
@@ -94,7 +96,7 @@ module _ (b : Start) (m : Machine) (fit : IsFit b m) (openings : List Opening) (
       grown v a true p l = a
       grown v a false p l = a
 
-  all_raises : (ks : List ℕ) (w : World) → Opens b m w → Opens b m (all_raise b m openings term ks w)
+  all_raises : (ks : List ℕ) (w : World) → Opens b m s0 w → Opens b m s0 (all_raise b m openings term ks w)
   all_raises [] w o = o
   all_raises (zero ∷ ks) w o = all_raises ks w o
   all_raises (suc place ∷ ks) w o =
@@ -103,16 +105,16 @@ module _ (b : Start) (m : Machine) (fit : IsFit b m) (openings : List Opening) (
       (answer ((node_at b w (suc place)).up && nat_lt (node_at b w (suc place)).term term) refl)
     where
       answer : (g : Bool) → ((node_at b w (suc place)).up && nat_lt (node_at b w (suc place)).term term) ≡ g
-          → Opens b m (cond g (tidies_if_due b (suc place) (opening_of openings (suc place)).tidy_stop (own_event b m (suc place) (RaiseEvent term) (opening_of openings (suc place)).raise_stop w)) w)
+          → Opens b m s0 (cond g (tidies_if_due b (suc place) (opening_of openings (suc place)).tidy_stop (own_event b m (suc place) (RaiseEvent term) (opening_of openings (suc place)).raise_stop w)) w)
       answer false e = o
       answer true e =
           let n = node_at b w (suc place) in
           let inside = up_inside b w place (and_parts n.up (nat_lt n.term term) e).0 in
           let v = own_event b m (suc place) (RaiseEvent term) (opening_of openings (suc place)).raise_stop w in
-          let k : Kept b m v = kept_own b m fit w o.kept place inside (RaiseEvent term) (o.follow (suc place))
-          (raise_steps (suc place) n.base n.applied (core_of b m (suc place) n) term (record { same = refl; base = omega arith; commit = (o.kept.nodes place inside).to_commit })) (opening_of openings (suc place)).raise_stop in
+          let k : Holds b m s0 v = holds_own b m s0 fit w o.kept place inside (RaiseEvent term) (o.follow (suc place))
+          (raise_steps (suc place) n.base n.applied (core_of b m (suc place) n) term (record { same = refl; base = omega arith; commit = (o.kept.kept.nodes place inside).to_commit })) (opening_of openings (suc place)).raise_stop in
           record {
-            kept = kept_if_due b m v k (suc place) (opening_of openings (suc place)).tidy_stop;
+            kept = kept_if_due b m s0 v k (suc place) (opening_of openings (suc place)).tidy_stop;
             follow = if_due_follow b v (raise_follow w o.follow place (opening_of openings (suc place)).raise_stop) (suc place) (opening_of openings (suc place)).tidy_stop;
           }
 
@@ -191,7 +193,7 @@ module _ (b : Start) (m : Machine) (v : World) (h : Kept b m v) where
           (λ (x : greatest_base b v ks ≤ (node_at b v k).base). inr (inl (e, omega arith)))
           (cases_lt (node_at b v k).base (greatest_base b v ks))
 
-  pub history_opens : (ks : List ℕ) (all : Bool) → Kept b m (record v { placed = greatest_base b v ks; history = front_at b v (greatest_base b v ks) ks; all_started = all })
+  abbrev history_opens : (ks : List ℕ) (all : Bool) → Kept b m (record v { placed = greatest_base b v ks; history = front_at b v (greatest_base b v ks) ks; all_started = all })
   history_opens ks all =
       let f = front_of (greatest_base b v ks) ks in
       let fs = f.short in
@@ -229,16 +231,22 @@ all_roles b (x ∷ xs) (suc i) = all_roles b xs i
 abbrev pub still : Start → World → World
 still b w = record w { nodes = map (refreshed b false) w.nodes; flight = []; cuts = []; hold = false; takes = []; fires = []; opened = map (log_of b) w.nodes }
 
-stands_still : (b : Start) (m : Machine) (w : World) → Kept b m w → Opens b m (still b w)
-stands_still b m w h = record {
+stands_still : (b : Start) (m : Machine) (s0 : Spine) (w : World) → Holds b m s0 w → Opens b m s0 (still b w)
+stands_still b m s0 w h = record {
   kept = record {
-    spine = h.spine;
-    reached = h.reached;
-    nodes = λ q lt. let l = length_map (refreshed b false) w.nodes in let inside : q < length w.nodes = omega (arith, l, lt) in
-        subst (λ (n : Node). NodeKept b m h.spine (suc q) n) (sym (get_map (refreshed b false) w.nodes q (nobody b) inside))
-        (refreshed_kept b m h.spine (suc q) false (node_at b w (suc q)) (h.nodes q inside));
-    flight = All-nil (InFlight b m h.spine (still b w));
-    history = record { bound = h.history.bound; decided = h.history.decided; long = h.history.long };
+    kept = record {
+      spine = h.kept.spine;
+      reached = h.kept.reached;
+      nodes = λ q lt. let l = length_map (refreshed b false) w.nodes in let inside : q < length w.nodes = omega (arith, l, lt) in
+          subst (λ (n : Node). NodeKept b m h.kept.spine (suc q) n) (sym (get_map (refreshed b false) w.nodes q (nobody b) inside))
+          (refreshed_kept b m h.kept.spine (suc q) false (node_at b w (suc q)) (h.kept.nodes q inside));
+      flight = All-nil (InFlight b m h.kept.spine (still b w));
+      history = record { bound = h.kept.history.bound; decided = h.kept.history.decided; long = h.kept.history.long };
+    };
+    since = h.since;
+    count = length_map (refreshed b false) w.nodes ∙ h.count;
+    took = All-nil (Took b h.kept.spine (still b w));
+    differ = λ i j d li lj ei et. absurd (omega (arith, li));
   };
   follow = roles;
 }
@@ -247,13 +255,26 @@ stands_still b m w h = record {
     roles zero = refl
     roles (suc q) = all_roles b w.nodes q
 
+-- the history of an opening
+history_holds : (b : Start) (m : Machine) (s0 : Spine) (v : World) → Holds b m s0 v → (ks : List ℕ) (all : Bool)
+    → Holds b m s0 (record v { placed = greatest_base b v ks; history = front_at b v (greatest_base b v ks) ks; all_started = all })
+history_holds b m s0 v h ks all =
+    let u : World = record v { placed = greatest_base b v ks; history = front_at b v (greatest_base b v ks) ks; all_started = all } in
+    record {
+      kept = history_opens b m v h.kept ks all;
+      since = h.since;
+      count = h.count;
+      took = All-weaker (Took b h.kept.spine v) (Took b h.kept.spine u) (λ x t. record { led = t.led; within = t.within }) v.takes h.took;
+      differ = h.differ;
+    }
+
 -- the opening
-pub kept_opens : (b : Start) (m : Machine) → IsFit b m → (openings : List Opening) (w : World) → Kept b m w → Kept b m (opens b m openings w)
-kept_opens b m fit openings w h =
+pub kept_opens : (b : Start) (m : Machine) (s0 : Spine) → IsFit b m → (openings : List Opening) (w : World) → Holds b m s0 w → Holds b m s0 (opens b m openings w)
+kept_opens b m s0 fit openings w h =
     let all = ids (nodes_of b) in
     let v = all_start b openings all (still b w) in
-    let o : Opens b m v = all_starts b m openings all (still b w) (stands_still b m w h) in
+    let o : Opens b m s0 v = all_starts b m s0 openings all (still b w) (stands_still b m s0 w h) in
     let u : World = record v { placed = greatest_base b v all; history = front_at b v (greatest_base b v all) all; all_started = all_up b v all } in
-    let k : Kept b m u = history_opens b m v o.kept all (all_up b v all) in
-    let p : Opens b m u = record { kept = k; follow = o.follow } in
-    (all_raises b m fit openings (greatest_term b v all) all u p).kept
+    let k : Holds b m s0 u = history_holds b m s0 v o.kept all (all_up b v all) in
+    let p : Opens b m s0 u = record { kept = k; follow = o.follow } in
+    (all_raises b m s0 fit openings (greatest_term b v all) all u p).kept

@@ -1,15 +1,15 @@
 -- Runs, and the facts.
-use Rattle.std.proofs.Common.{◌≡◌, ◌≢◌, ℕ, zero, suc, ◌-◌, ◌<◌, Bool, true, false, cond, ◌&&◌, ◌==◌, List, [], ◌∷◌, length, take, drop, get_or, replicate, refl, sym, ap, ◌∙◌, subst, arith, inl, take-take}
+use Rattle.std.proofs.Common.{◌≡◌, ◌≢◌, ℕ, zero, suc, ◌-◌, ◌<◌, Bool, true, false, cond, ◌&&◌, ◌==◌, List, [], ◌∷◌, ◌++◌, length, take, drop, get_or, replicate, refl, sym, ap, ◌∙◌, subst, arith, inl, take-take}
 use Rattle.std.proofs.lemmas.Bool.{and_parts}
 use Rattle.std.proofs.lemmas.List.Elements.{All-nil, All-drop}
 use Rattle.raft_types.specs.declared.entry.LogEntry.{LogEntry}
 use Rattle.raft_spine.specs.Logs.{IsFront}
 use Rattle.raft_spine.specs.Start.{Start}
-use Rattle.raft_spine.specs.Spine.{begin}
+use Rattle.raft_spine.specs.Spine.{Spine, begin}
 use Rattle.raft_spine.specs.Decided.{Decided}
 use Rattle.raft_spine.proofs.Sound.{Rooted, Sound}
 use Rattle.raft_spine.proofs.Run.{reached_sound}
-use Rattle.raft_spine.proofs.Grow.{decided_front}
+use Rattle.raft_spine.proofs.Grow.{grows_same, decided_front}
 use Rattle.raft_spine.proofs.Laws.{rooted_match, leader_has, one_history as one_line}
 use Rattle.raft_types.specs.Log.{LogParts, compacted}
 use Rattle.raft_claims.specs.Tied.{whole_log, StoreTied}
@@ -18,62 +18,63 @@ use Rattle.raft_claims.proofs.Lawful.{begins_tied}
 use Rattle.cluster_world.specs.World.{Machine, Node, World, nodes_of, nobody, fresh_node, last_of, node_at, begin_world}
 use Rattle.cluster_world.specs.Events.{Event, Open, StartNode, FailStart, StopNode, Timeout, Beat, Command, Fire, Deliver, Drop, Tidy, Cut, Mend, Hold, Flow, own_event, may_append, next_entry, starts, fails_to_start, mended, happens, run}
 use Rattle.raft_types.specs.declared.event.CoreEvent.TheVariants.{Command as CommandEvent, Fire as FireEvent}
-use Rattle.cluster_world.specs.Facts.{IsFit, Runs, NoTwoLead, WholeLogsMatch, OneHistory, LeadersHave, WorldFacts, applied_of, committed_of}
+use Rattle.cluster_world.specs.Facts.{IsFit, Runs, NoTwoLead, WholeLogsMatch, OneHistory, LeadersHave, LeadsNow, LedOnce, WorldFacts, applied_of, committed_of}
 use Rattle.cluster_world.proofs.Keeping.{NodeKept, InFlight, Kept, up_inside}
-use Rattle.cluster_world.proofs.Happens.{kept_starts, kept_fails, kept_stops, kept_if_due, refit, kept_drops, kept_delivers, kept_timeout, kept_beat, kept_command, kept_fire, retake}
+use Rattle.cluster_world.proofs.Happens.{kept_starts, kept_fails, kept_stops, kept_if_due, refit, kept_drops, kept_delivers, kept_timeout, kept_beat, kept_command, kept_fire}
+use Rattle.cluster_world.proofs.Holding.{Took, Holds}
 use Rattle.cluster_world.proofs.Opens.{kept_opens}
 
 -- a log compacted at its base is the log
 at_base : (b : Start) (l : List LogEntry) → compacted (whole_log b l) b.base ≡ whole_log b l
 at_base b l = grind arith
 
-module _ (b : Start) (m : Machine) (fit : IsFit b m) where
-  pub kept_happens : (w : World) → Kept b m w → (e : Event) → Kept b m (happens b m w e)
-  kept_happens w h (Open openings) = kept_opens b m fit openings w h
+module _ (b : Start) (m : Machine) (s0 : Spine) (fit : IsFit b m) where
+  pub kept_happens : (w : World) → Holds b m s0 w → (e : Event) → Holds b m s0 (happens b m w e)
+  kept_happens w h (Open openings) = kept_opens b m s0 fit openings w h
   kept_happens w h (StartNode k) = answer (node_at b w k).up
     where
-      answer : (g : Bool) → Kept b m (cond g w (starts b k w))
+      answer : (g : Bool) → Holds b m s0 (cond g w (starts b k w))
       answer true = h
-      answer false = kept_starts b m w h k
+      answer false = kept_starts b m s0 w h k
   kept_happens w h (FailStart k replaced) = answer (node_at b w k).up
     where
-      answer : (g : Bool) → Kept b m (cond g w (fails_to_start b k replaced w))
+      answer : (g : Bool) → Holds b m s0 (cond g w (fails_to_start b k replaced w))
       answer true = h
-      answer false = kept_fails b m w h k replaced
-  kept_happens w h (StopNode k) = kept_stops b m w h k
-  kept_happens w h (Timeout k stop) = kept_timeout b m fit w h k stop
-  kept_happens w h (Beat k stop) = kept_beat b m fit w h k stop
+      answer false = kept_fails b m s0 w h k replaced
+  kept_happens w h (StopNode k) = kept_stops b m s0 w h k
+  kept_happens w h (Timeout k stop) = kept_timeout b m s0 fit w h k stop
+  kept_happens w h (Beat k stop) = kept_beat b m s0 fit w h k stop
   kept_happens w h (Command zero entry stop) = h
   kept_happens w h (Command (suc place) entry stop) = answer (may_append b (node_at b w (suc place))) refl
     where
       answer : (g : Bool) → may_append b (node_at b w (suc place)) ≡ g
-          → Kept b m (cond g (let v = own_event b m (suc place) (CommandEvent entry) stop w in record v { takes = next_entry b (node_at b w (suc place)) entry ∷ v.takes }) w)
+          → Holds b m s0 (cond g (let v = own_event b m (suc place) (CommandEvent entry) stop w in record v { takes = next_entry b (node_at b w (suc place)) entry ∷ v.takes }) w)
       answer false e = h
-      answer true e =
-          let v = own_event b m (suc place) (CommandEvent entry) stop w in
-          retake b m fit v (kept_command b m fit w h place entry stop e) (next_entry b (node_at b w (suc place)) entry ∷ v.takes) v.fires
+      answer true e = kept_command b m s0 fit w h place entry stop e
   kept_happens w h (Fire zero entry stop) = h
   kept_happens w h (Fire (suc place) entry stop) = answer (may_append b (node_at b w (suc place)) && ((node_at b w (suc place)).applied == last_of b (node_at b w (suc place)))) refl
     where
       answer : (g : Bool) → (may_append b (node_at b w (suc place)) && ((node_at b w (suc place)).applied == last_of b (node_at b w (suc place)))) ≡ g
-          → Kept b m (cond g (let v = own_event b m (suc place) (FireEvent entry) stop w in record v { fires = next_entry b (node_at b w (suc place)) entry ∷ v.fires }) w)
+          → Holds b m s0 (cond g (let v = own_event b m (suc place) (FireEvent entry) stop w in record v { fires = next_entry b (node_at b w (suc place)) entry ∷ v.fires }) w)
       answer false e = h
       answer true e =
           let v = own_event b m (suc place) (FireEvent entry) stop w in
           let n = node_at b w (suc place) in
-          retake b m fit v (kept_fire b m fit w h place entry stop (and_parts (may_append b n) (n.applied == last_of b n) e).0) v.takes (next_entry b n entry ∷ v.fires)
-  kept_happens w h (Deliver place again stop) = kept_delivers b m fit w h place again stop (drop place w.flight) (All-drop (InFlight b m h.spine w) place w.flight h.flight)
-  kept_happens w h (Drop place) = kept_drops b m w h place
-  kept_happens w h (Tidy k stop) = kept_if_due b m w h k stop
-  kept_happens w h (Cut j k) = refit b m w h w.flight h.flight ((j, k) ∷ w.cuts) w.hold w.takes w.opened w.all_started w.fires
-  kept_happens w h (Mend j k) = refit b m w h w.flight h.flight (mended w.cuts j k) w.hold w.takes w.opened w.all_started w.fires
-  kept_happens w h Hold = refit b m w h w.flight h.flight w.cuts true w.takes w.opened w.all_started w.fires
-  kept_happens w h Flow = refit b m w h w.flight h.flight w.cuts false w.takes w.opened w.all_started w.fires
+          let k : Holds b m s0 v = kept_fire b m s0 fit w h place entry stop (and_parts (may_append b n) (n.applied == last_of b n) e).0 in
+          refit b m s0 v k v.flight k.kept.flight v.cuts v.hold (next_entry b n entry ∷ v.fires)
+  kept_happens w h (Deliver place again stop) = kept_delivers b m s0 fit w h place again stop (drop place w.flight) (All-drop (InFlight b m h.kept.spine w) place w.flight h.kept.flight)
+  kept_happens w h (Drop place) = kept_drops b m s0 w h place
+  kept_happens w h (Tidy k stop) = kept_if_due b m s0 w h k stop
+  kept_happens w h (Cut j k) = refit b m s0 w h w.flight h.kept.flight ((j, k) ∷ w.cuts) w.hold w.fires
+  kept_happens w h (Mend j k) = refit b m s0 w h w.flight h.kept.flight (mended w.cuts j k) w.hold w.fires
+  kept_happens w h Hold = refit b m s0 w h w.flight h.kept.flight w.cuts true w.fires
+  kept_happens w h Flow = refit b m s0 w h w.flight h.kept.flight w.cuts false w.fires
 
-  pub kept_run : (w : World) → Kept b m w → (es : List Event) → Kept b m (run b m w es)
+  pub kept_run : (w : World) → Holds b m s0 w → (es : List Event) → Holds b m s0 (run b m w es)
   kept_run w h [] = h
   kept_run w h (e ∷ es) = kept_run (happens b m w e) (kept_happens w h e) es
 
+module _ (b : Start) (m : Machine) (fit : IsFit b m) where
   begin_node : (k : ℕ) → k ≢ 0 → (count : ℕ) → NodeKept b m (begin b) k (fresh_node b false b.term b.vote b.log b.base count)
   begin_node k nz count = record {
     tied = store_starts b m.len (begin b) k (nodes_of b) b.term b.vote (compacted (whole_log b b.log) b.base) (m.len (take (b.base - b.base) b.log)) b.log
@@ -90,7 +91,7 @@ module _ (b : Start) (m : Machine) (fit : IsFit b m) where
   same_nodes (suc k) zero n d h = refl
   same_nodes (suc k) (suc i) n d h = same_nodes k i n d (omega arith)
 
-  pub kept_begin : (count : ℕ) → Kept b m (begin_world b count)
+  abbrev kept_begin : (count : ℕ) → Kept b m (begin_world b count)
   kept_begin count = record {
     spine = begin b;
     reached = record { start = fit.start; moves = []; can = tt; is = refl };
@@ -100,24 +101,64 @@ module _ (b : Start) (m : Machine) (fit : IsFit b m) where
     history = record { bound = 0; decided = record { how = inl refl }; long = inl (omega arith) };
   }
 
+-- a running node
+running : (b : Start) (m : Machine) (w : World) (h : Kept b m w) (k : ℕ) → Runs b w k → NodeKept b m h.spine k (node_at b w k)
+running b m w h zero r = absurd (let q : false ≡ true = r in cc)
+running b m w h (suc place) r = h.nodes place (up_inside b w place r)
+
+length_replicate : (k : ℕ) (n : Node) → length (replicate k n) ≡ k
+length_replicate zero n = refl
+length_replicate (suc k) n = ap suc (length_replicate k n)
+
+-- what holds since this world
+since_now : (b : Start) (m : Machine) (s0 : Spine) (w : World) (h : Holds b m s0 w) → Holds b m h.kept.spine w
+since_now b m s0 w h = record { kept = h.kept; since = grows_same h.kept.spine; count = h.count; took = h.took; differ = h.differ }
+
+run_both : (b : Start) (m : Machine) (w : World) (es es2 : List Event) → run b m w (es ++ es2) ≡ run b m (run b m w es) es2
+run_both b m w [] es2 = refl
+run_both b m w (e ∷ es) es2 = run_both b m (happens b m w e) es es2
+
+module _ (b : Start) (m : Machine) (fit : IsFit b m) (count : ℕ) where
+  pub holds_begin : Holds b m (begin b) (begin_world b count)
+  holds_begin = record {
+    kept = kept_begin b m fit count;
+    since = grows_same (begin b);
+    count = length_replicate (nodes_of b) (fresh_node b false b.term b.vote b.log b.base count);
+    took = All-nil (Took b (begin b) (begin_world b count));
+    differ = λ i j d li lj ei et. absurd (omega (arith, li));
+  }
+
+  pub holds_run : (es : List Event) → Holds b m (begin b) (run b m (begin_world b count) es)
+  holds_run es = kept_run b m (begin b) fit (begin_world b count) holds_begin es
+
+  -- who leads a term now and who led it before are one
+  pub led_once : LedOnce b m (begin_world b count)
+  led_once es es2 j k x y e =
+      let w = run b m (begin_world b count) es in
+      let h = holds_run es in
+      let now = kept_run b m h.kept.spine fit w (since_now b m (begin b) w h) es2 in
+      let v = run b m w es2 in
+      let y' = subst (λ (u : World). LeadsNow b u k) (run_both b m (begin_world b count) es es2) y in
+      let e' : (node_at b w j).term ≡ (node_at b v k).term = e ∙ ap (λ (u : World). (node_at b u k).term) (run_both b m (begin_world b count) es es2) in
+      let a = (running b m w h.kept j x.runs).tied in
+      let c = (running b m v now.kept k y'.runs).tied in
+      let led = (a.leading x.role).leads in
+      let nz : h.kept.spine.leader (node_at b w j).term ≢ 0 = λ z. a.is_node (sym led ∙ z) in
+      sym led ∙ (sym (now.since.leader (node_at b w j).term nz) ∙ (ap now.kept.spine.leader e' ∙ (c.leading y'.role).leads))
+
 -- the facts of a world
 module _ (b : Start) (m : Machine) (w : World) (h : Kept b m w) where
   sound : Sound b h.spine
   sound = reached_sound b h.spine h.reached
 
-  -- a running node
-  running : (k : ℕ) → Runs b w k → NodeKept b m h.spine k (node_at b w k)
-  running zero r = absurd (let q : false ≡ true = r in cc)
-  running (suc place) r = h.nodes place (up_inside b w place r)
-
   one_leader : NoTwoLead b w
   one_leader j k x y e =
-      let a = running j x.runs in let c = running k y.runs in
+      let a = running b m w h j x.runs in let c = running b m w h k y.runs in
       sym ((a.tied.leading x.role).leads) ∙ (ap h.spine.leader e ∙ (c.tied.leading y.role).leads)
 
   decided_applied : (k : ℕ) → Runs b w k → Decided b h.spine (node_at b w k).term (applied_of b (node_at b w k))
   decided_applied k r =
-      let a = running k r in let n = node_at b w k in let tc = a.to_commit in
+      let a = running b m w h k r in let n = node_at b w k in let tc = a.to_commit in
       subst (λ (l : List LogEntry). Decided b h.spine n.term l) (take-take (n.applied - b.base) (n.commit - b.base) n.whole (omega arith))
       (decided_front b h.spine n.term (n.applied - b.base) (take (n.commit - b.base) n.whole) a.tied.decided)
 
@@ -146,7 +187,7 @@ module _ (b : Start) (m : Machine) (w : World) (h : Kept b m w) where
 
   leaders : LeadersHave b w
   leaders j k x r le =
-      let a = running j x.runs in let c = running k r in
+      let a = running b m w h j x.runs in let c = running b m w h k r in
       let led = (a.tied.leading x.role).leads in
       let nz = a.tied.is_node in
       let own = sound.own_log j nz (ap h.spine.leader a.tied.term ∙ led) in

@@ -4,7 +4,7 @@ use Rattle.std.proofs.lemmas.Bool.{eqb-true, and_parts}
 use Rattle.raft_types.specs.declared.entry.LogEntry.{LogEntry}
 use Rattle.raft_types.specs.declared.limits.TheConstants.{MAX_CHUNK}
 use Rattle.raft_types.specs.declared.event.CoreEvent.{CoreEvent}
-use Rattle.raft_types.specs.declared.event.CoreEvent.TheVariants.{Heard}
+use Rattle.raft_types.specs.declared.event.CoreEvent.TheVariants.{Timeout, Beat, Raise, Command, Fire, Heard}
 use Rattle.raft_types.specs.declared.message.Body.{Body}
 use Rattle.raft_types.specs.declared.message.Body.TheVariants.{Vote, VoteReply, Append, AppendReply, Chunk, ChunkReply}
 use Rattle.raft_types.specs.Log.{LogParts, compacted}
@@ -30,29 +30,40 @@ use Rattle.cluster_world.specs.Node.{needs, with_chunk, arrived, told_of, tidied
 use Rattle.cluster_world.specs.Events.{own_event, node_event, is_cut, arrives}
 use Rattle.cluster_world.specs.Facts.{IsFit}
 use Rattle.cluster_world.proofs.Steps.{Steps, heard_steps}
-use Rattle.cluster_world.proofs.Keeping.{HeldOf, NodeKept, ChunkOf, InFlight, Kept, up_inside, held_stays}
+use Rattle.cluster_world.proofs.Roles.{Raised, leads_how}
+use Rattle.raft_types.specs.Core.{CoreParts}
+use Rattle.cluster_world.proofs.Keeping.{HeldOf, NodeKept, ChunkOf, InFlight, Kept, Onward, onward_same, up_inside, held_stays}
 use Rattle.cluster_world.proofs.NodeEvents.{kept_ended, kept_stopped}
+
+-- the opening's term is asked of followers
+raised_by : (b : Start) (m : Machine) (s : Spine) (c : CoreParts) (sender : List LogEntry) (event : CoreEvent) → Asked b m.len s c sender event → Raised c event
+raised_by b m s c sender Timeout a = tt
+raised_by b m s c sender Beat a = tt
+raised_by b m s c sender (Raise term) a = a
+raised_by b m s c sender (Command entry) a = tt
+raised_by b m s c sender (Fire entry) a = tt
+raised_by b m s c sender (Heard message applied held) a = tt
 
 module _ (b : Start) (m : Machine) (fit : IsFit b m) where
   -- an event of a node, with the whole log of a sender
   pub kept_by : (w : World) → (h : Kept b m w) → (place : ℕ) → place < length w.nodes → (sender : List LogEntry) (held : Held) (event : CoreEvent)
       → Asked b m.len h.spine (core_of b m (suc place) (node_at b w (suc place))) sender event
       → Steps (suc place) (node_at b w (suc place)).base (node_at b w (suc place)).applied (on (core_of b m (suc place) (node_at b w (suc place))) event)
-      → (held.count ≡ 0) ⊎ HeldOf b m.len h.spine held → (stop : Option ℕ) → Kept b m (node_event b m (suc place) sender held event stop w)
+      → (held.count ≡ 0) ⊎ HeldOf b m.len h.spine held → (stop : Option ℕ) → Onward b m h.spine w (node_event b m (suc place) sender held event stop w)
   kept_by w h place inside sender held event a st hk (Some j) =
       let n = node_at b w (suc place) in
       kept_stopped b m w h place inside n refl sender event j (event_stop b m.len fit.sizes h.spine h.reached (core_of b m (suc place) n) n.whole (h.nodes place inside).tied fit.members sender event a j) st
   kept_by w h place inside sender held event a st hk None =
       let n = node_at b w (suc place) in
       let q = event_turn b m.len fit.sizes h.spine h.reached (core_of b m (suc place) n) n.whole (h.nodes place inside).tied fit.members sender event a in
-      kept_ended b m w h place inside n refl sender event held q st
+      kept_ended b m w h place inside n refl sender event held q st (leads_how (core_of b m (suc place) n) event (raised_by b m h.spine (core_of b m (suc place) n) sender event a))
       (held_stays b m.len h.spine (moved_all q.moves h.spine) (moves_grow b h.reached.start.low h.spine (reached_sound b h.spine h.reached) q.moves q.can) held hk)
 
   -- an event of a node's own
   pub kept_own : (w : World) → (h : Kept b m w) → (place : ℕ) → place < length w.nodes → (event : CoreEvent)
       → Asked b m.len h.spine (core_of b m (suc place) (node_at b w (suc place))) [] event
       → Steps (suc place) (node_at b w (suc place)).base (node_at b w (suc place)).applied (on (core_of b m (suc place) (node_at b w (suc place))) event)
-      → (stop : Option ℕ) → Kept b m (own_event b m (suc place) event stop w)
+      → (stop : Option ℕ) → Onward b m h.spine w (own_event b m (suc place) event stop w)
   kept_own w h place inside event a st stop = kept_by w h place inside [] (node_at b w (suc place)).held event a st (h.nodes place inside).holds stop
 
 -- a snapshot of which these bytes are held is the chunk's, so that they are no more than it has
@@ -125,7 +136,7 @@ module _ (b : Start) (m : Machine) (fit : IsFit b m) (w : World) (h : Kept b m w
 
   -- a message arrives
   pub kept_arrives : (from to : ℕ) (body : Body) → InFlight b m h.spine w (record { from = from; to = to; body = body }) → (stop : Option ℕ)
-      → Kept b m (arrives b m (record { from = from; to = to; body = body }) stop w)
+      → Onward b m h.spine w (arrives b m (record { from = from; to = to; body = body }) stop w)
   kept_arrives from zero body f stop = absurd (let z = f.to_node in omega (arith, z))
   kept_arrives from (suc place) body f stop = answer ((node_at b w (suc place)).up && not (is_cut w.cuts from (suc place))) refl
     where
@@ -133,9 +144,9 @@ module _ (b : Start) (m : Machine) (fit : IsFit b m) (w : World) (h : Kept b m w
       n = node_at b w (suc place)
 
       answer : (g : Bool) → ((node_at b w (suc place)).up && not (is_cut w.cuts from (suc place))) ≡ g
-          → Kept b m (cond g (node_event b m (suc place) (node_at b w from).whole (arrived (node_at b w (suc place)) body)
+          → Onward b m h.spine w (cond g (node_event b m (suc place) (node_at b w from).whole (arrived (node_at b w (suc place)) body)
           (Heard (record { from = from; to = suc place; body = body }) (node_at b w (suc place)).applied (told_of (node_at b w (suc place)) body)) stop w) w)
-      answer false e = h
+      answer false e = onward_same b m w h
       answer true e =
           let up = (and_parts (node_at b w (suc place)).up (not (is_cut w.cuts from (suc place))) e).0 in
           let inside = up_inside b w place up in

@@ -1,5 +1,5 @@
 -- The facts of every world that events reach.
-use Rattle.std.specs.Prelude.{◌≡◌, ◌⊎◌, ℕ, suc, ◌-◌, ◌<◌, ◌≤◌, true, ⊤, List, [], length, take, get_or}
+use Rattle.std.specs.Prelude.{◌≡◌, ◌⊎◌, ℕ, suc, ◌-◌, ◌<◌, ◌≤◌, true, ⊤, List, [], ◌++◌, length, take, get_or}
 use Rattle.raft_types.specs.declared.entry.LogEntry.{LogEntry}
 use Rattle.raft_types.specs.declared.event.CoreEvent.{CoreEvent}
 use Rattle.raft_types.specs.declared.event.CoreEvent.TheVariants.{Timeout, Beat, Raise, Command, Fire, Heard}
@@ -10,8 +10,9 @@ use Rattle.raft_types.specs.Quorum.{ids}
 use Rattle.raft_types.specs.Step.{on}
 use Rattle.raft_spine.specs.Logs.{SameFirst, IsFront}
 use Rattle.raft_spine.specs.Start.{Start, IsStart}
-use Rattle.cluster_world.specs.World.{Machine, Held, Node, World, nodes_of, core_of, node_at}
+use Rattle.cluster_world.specs.World.{Machine, Held, Node, Placed, World, nodes_of, core_of, node_at}
 use Rattle.cluster_world.specs.Node.{arrived, told_of, ended}
+use Rattle.cluster_world.specs.Events.{Event, run}
 
 -- what the nodes begin with: one store, of nodes with the numbers from 1 on, and a machine whose snapshots have at least one byte
 pub record IsFit (b : Start) (m : Machine) : Type 0 where
@@ -31,6 +32,18 @@ pub record LeadsNow (b : Start) (w : World) (k : ℕ) : Type 0 where
 -- two nodes that lead in one term are one
 abbrev pub NoTwoLead : Start → World → Type 0
 NoTwoLead b w = (j k : ℕ) → LeadsNow b w j → LeadsNow b w k → (node_at b w j).term ≡ (node_at b w k).term → j ≡ k
+
+-- who leads in a term after some events, and who leads in it after more of them, are one: no other node leads in it later
+abbrev pub LedOnce : Start → Machine → World → Type 0
+LedOnce b m w =
+    (es es2 : List Event) (j k : ℕ) → LeadsNow b (run b m w es) j → LeadsNow b (run b m w (es ++ es2)) k
+    → (node_at b (run b m w es) j).term ≡ (node_at b (run b m w (es ++ es2)) k).term → j ≡ k
+
+-- of two takes with one index and one term both are one
+abbrev pub TakesDiffer : World → Type 0
+TakesDiffer w =
+    (i j : ℕ) (d : Placed) → i < length w.takes → j < length w.takes → (get_or w.takes i d).index ≡ (get_or w.takes j d).index
+    → (get_or w.takes i d).term ≡ (get_or w.takes j d).term → i ≡ j
 
 -- two whole logs that have an entry of one term at one index are the same up to it
 abbrev pub LogsMatch : List LogEntry → List LogEntry → Type 0
