@@ -5,8 +5,8 @@ use Rattle.line_io.specs.Lines.{NoLf, lines, last_line, whole_lines}
 use Rattle.line_io.specs.Shown.{shown_lines, given_next}
 use Rattle.line_io.specs.Streams.{Rose}
 use Rattle.line_io.specs.Reading.{Reading}
-use Rattle.line_io.specs.Ahead.{GoesOn, Reads, bytes_before, TakesAll, Step, HasEnd, HasCause, Call}
-use Rattle.line_io.specs.Pieces.{FoundLine, Came, Ended, Taken}
+use Rattle.line_io.specs.Ahead.{GoesOn, Reads, bytes_before, TakesAll, Step, HasEnd, HasCause, Call, NextTaken}
+use Rattle.line_io.specs.Pieces.{Found, FoundLine, Came, Ended, Taken}
 use Rattle.line_io.specs.declared.next.Next.{Next}
 use Rattle.line_io.specs.declared.next.Next.TheVariants.{Line, TooLong, End}
 use Rattle.line_io.specs.declared.next.LineFault.{LineFault}
@@ -133,6 +133,14 @@ gives_line old mid new left left' bytes before now next going came found =
       };
       cause = line_cause next (bytes_before old bytes) new before now found.one (inl (gave_some old.limit (bytes_before old bytes) (given_next next) new.unread goes found.one));
     }
+
+-- it gives one without the source
+gives_taken : (old new : Reading) (next : Next) → old.ended ≡ false → FoundLine old new next → NextTaken old (Some next) new
+gives_taken old new next going found = (found.one, λ left n. gives_line old old new left left [] n n next going (Came-start old left going) found)
+
+pub takes_next : (old new : Reading) (found : Option Next) → old.ended ≡ false → Found old found new → NextTaken old found new
+takes_next old new None going found = found
+takes_next old new (Some next) going found = gives_taken old new next going found
 
 -- the budget was passed
 pub passes : (old new : Reading) (left left' : Option (List ℕ)) (bytes : List ℕ) (before now : ℕ) → old.ended ≡ false → Came old new left left' bytes → NoLf new.unread → new.room ≡ 0

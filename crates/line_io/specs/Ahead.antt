@@ -1,7 +1,7 @@
 -- What a reader of lines has given, and what it has still to give.
 use Rattle.std.specs.Prelude.{◌≡◌, ◌⊎◌, ℕ, ◌+◌, ◌-◌, ◌<◌, ◌≤◌, Bool, true, false, List, [], ◌++◌, length, take, Option, Some, None, Result, Ok, Err}
 use Rattle.line_io.specs.Lines.{NoLf, lines, lines_from, last_line, no_line, whole_lines}
-use Rattle.line_io.specs.Shown.{shown_lines, given}
+use Rattle.line_io.specs.Shown.{shown_lines, given, given_next}
 use Rattle.line_io.specs.Reading.{Reading, bytes_ahead}
 use Rattle.line_io.specs.Streams.{Rose}
 use Rattle.line_io.specs.declared.next.Next.{Next}
@@ -59,3 +59,8 @@ pub record Call (old new : Reading) (left left' : Option (List ℕ)) (before now
   pub bytes : List ℕ
   pub step : Step old new left left' (given result) bytes
   pub cause : HasCause result (bytes_before old bytes) new before now
+
+-- the next line was given without the source, as by a call that takes nothing of it; or none stands whole among the bytes taken
+abbrev pub NextTaken : Reading → Option Next → Reading → Type 0
+NextTaken old None new = NoLf old.unread × (new ≡ old)
+NextTaken old (Some next) new = (length (given_next next) ≡ 1) × ((left : Option (List ℕ)) (n : ℕ) → Call old new left left n n (Ok next))

@@ -41,7 +41,7 @@ impl Model for Lines {
 }
 
 impl Lines {
-    ghost use Rattle.line_io.specs.Ahead.{Call};
+    ghost use Rattle.line_io.specs.Ahead.{Call, NextTaken};
     ghost use Rattle.line_io.specs.Pieces.{Found, Taken};
 
     /// A reader of lines of at most `limit` bytes, from an input of at most `budget` bytes.
@@ -82,6 +82,18 @@ impl Lines {
                 return Ok(next);
             }
         }
+    }
+
+    /// The next line, where it stands whole among the bytes taken: a call that asks no source, so that the caller can
+    /// do what must be done before the source is asked again.
+    pub fn next_taken(&mut self) -> Result<Option<Next>, AllocError>
+        ensures taken { IfOk result (λ next. NextTaken self.old next self.new) }
+        ensures err { OnErr result (self.new ≡ self.old) }
+    {
+        if self.has_ended() {
+            return Ok(None);
+        }
+        self.whole_line()
     }
 
     fn has_ended(&self) -> bool
