@@ -1,6 +1,6 @@
 // A node with its children.
 ghost use Rattle.std.specs.Prelude.{◌≡◌, ◌∷◌, ◌++◌, [], ◌<◌, List, length, IsTrue, OnOk, IfSome, Some, None, is_some, cond, not, ◌&&◌};
-ghost use Rattle.std.specs.Option.{option_copied};
+ghost use Rattle.std.specs.Option.{option_copied, option_map};
 ghost use Rattle.std.specs.FinMap.{find};
 ghost use Rattle.khepri_terms.specs.Terms.{NameText};
 ghost use Rattle.khepri_terms.specs.Order.{name_cmp, path_cmp};
@@ -73,9 +73,10 @@ impl Nest {
         self.kids.len() as u64
     }
 
-    /// The least name of a child that comes after the other name.
-    pub fn next_kid(&self, after: Option<&Name>) -> Option<&Name>
-        ensures { IsNext name_cmp (λ n. IsTrue (is_some (find path_cmp (n ∷ []) self.now))) (option_copied after.entry) (option_copied result) }
+    /// The least name of a child that comes after the other name, and the child: one search among the children.
+    pub fn next_kid(&self, after: Option<&Name>) -> Option<(&Name, &Nest)>
+        ensures next { IsNext name_cmp (λ n. IsTrue (is_some (find path_cmp (n ∷ []) self.now))) (option_copied after.entry) (option_map (λ r. r.0.now) result) }
+        ensures some { IfSome result (λ r. IsSub (r.0.now ∷ []) self.now r.1.now) }
     {
         next_key(&self.kids, after)
     }
