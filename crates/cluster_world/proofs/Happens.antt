@@ -21,9 +21,9 @@ use Rattle.cluster_world.specs.World.{Machine, Node, Placed, World, nobody, log_
 use Rattle.cluster_world.specs.Node.{applied_before, ended, halted, is_due, tidied, tidied_if_due}
 use Rattle.cluster_world.specs.Events.{with_node, sent, own_event, may_append, next_entry, tidies, tidies_if_due, starts, fails_to_start, without, arrives, delivers}
 use Rattle.cluster_world.specs.Facts.{IsFit}
-use Rattle.cluster_world.proofs.Steps.{IsPast, Steps, own_steps, fire_steps, timeout_steps, beat_steps}
+use Rattle.cluster_world.proofs.Steps.{ChunkWithin, IsPast, Steps, own_steps, fire_steps, timeout_steps, beat_steps}
 use Rattle.cluster_world.proofs.Roles.{no_follower}
-use Rattle.cluster_world.proofs.Keeping.{NodeKept, InFlight, Kept, Onward, onward_same, onward_node, up_inside, with_node_same}
+use Rattle.cluster_world.proofs.Keeping.{NodeKept, InFlight, Kept, Onward, Within, Forward, within_put, onward_same, onward_node, up_inside, with_node_same}
 use Rattle.cluster_world.proofs.Holding.{Took, Holds, took_on, differs_on, holds_on, one_differs, one_longer}
 use Rattle.cluster_world.proofs.Worlds.{kept_own, kept_arrives, refreshed_kept, tidied_kept}
 
@@ -33,22 +33,23 @@ pub record IsAlike (b : Start) (m : Machine) (s : Spine) (k : ℕ) (n n' : Node)
   pub base : n.base ≤ n'.base
   pub whole : n'.whole ≡ n.whole
   pub leads : n'.role ≡ Leader → (n.role ≡ Leader) × (n'.term ≡ n.term)
+  pub applied : n'.applied ≤ n.applied
 
 alike_then : (b : Start) (m : Machine) (s : Spine) (k : ℕ) (n n1 n2 : Node) → IsAlike b m s k n n1 → IsAlike b m s k n1 n2 → IsAlike b m s k n n2
-alike_then b m s k n n1 n2 x y = let x1 = x.base in let y1 = y.base in record { kept = y.kept; base = omega arith; whole = y.whole ∙ x.whole; leads = λ e. let q = y.leads e in let r = x.leads q.0 in (r.0, q.1 ∙ r.1) }
+alike_then b m s k n n1 n2 x y = let x1 = x.base in let y1 = y.base in record { kept = y.kept; base = omega arith; whole = y.whole ∙ x.whole; leads = λ e. let q = y.leads e in let r = x.leads q.0 in (r.0, q.1 ∙ r.1); applied = let xa = x.applied in let ya = y.applied in omega (arith, xa, ya) }
 
 refreshed_alike : (b : Start) (m : Machine) (s : Spine) (k : ℕ) (up : Bool) (n : Node) → NodeKept b m s k n → IsAlike b m s k n (refreshed b up n)
-refreshed_alike b m s k up n ok = record { kept = refreshed_kept b m s k up n ok; base = omega arith; whole = refl; leads = λ e. absurd (let q : Follower ≡ Leader = e in cc) }
+refreshed_alike b m s k up n ok = record { kept = refreshed_kept b m s k up n ok; base = omega arith; whole = refl; leads = λ e. absurd (let q : Follower ≡ Leader = e in cc); applied = ok.from_base }
 
 tidied_alike : (b : Start) (m : Machine) (s : Spine) (k : ℕ) (n : Node) → NodeKept b m s k n → IsAlike b m s k n (tidied b n)
-tidied_alike b m s k n ok = record { kept = tidied_kept b m s k n ok; base = ok.from_base; whole = refl; leads = λ e. (e, refl) }
+tidied_alike b m s k n ok = record { kept = tidied_kept b m s k n ok; base = ok.from_base; whole = refl; leads = λ e. (e, refl); applied = omega arith }
 
 due_alike : (b : Start) (m : Machine) (s : Spine) (k : ℕ) (n : Node) → NodeKept b m s k n → IsAlike b m s k n (tidied_if_due b n)
 due_alike b m s k n ok = answer (is_due b n)
   where
     answer : (g : Bool) → IsAlike b m s k n (cond g (tidied b n) n)
     answer true = tidied_alike b m s k n ok
-    answer false = record { kept = ok; base = omega arith; whole = refl; leads = λ e. (e, refl) }
+    answer false = record { kept = ok; base = omega arith; whole = refl; leads = λ e. (e, refl); applied = omega arith }
 
 pub set_past : {A : Type 0} (xs : List A) (i : ℕ) (v : A) → length xs ≤ i → set xs i v ≡ xs
 set_past [] i v h = refl
@@ -85,8 +86,19 @@ module _ (b : Start) (m : Machine) (s0 : Spine) (w : World) (h : Holds b m s0 w)
       (λ (past : length w.nodes ≤ place). subst (λ (ns : List Node). Onward b m h.kept.spine w (record w { nodes = ns })) (sym (set_past w.nodes place n' past)) (onward_same b m w h.kept))
       (cases_lt place (length w.nodes))
 
+  within_change : (k : ℕ) (n' : Node) → ((place : ℕ) → k ≡ suc place → place < length w.nodes → IsAlike b m h.kept.spine k (node_at b w k) n') → Within b w → Within b (with_node k n' w)
+  within_change zero n' f x = x
+  within_change (suc place) n' f x = ⊎_elim
+      (λ (inside : place < length w.nodes). let a = (f place refl inside).applied in let y = x.nodes place inside in within_put b w place n' inside x (omega (arith, a, y)))
+      (λ (past : length w.nodes ≤ place). subst (λ (ns : List Node). Within b (record w { nodes = ns })) (sym (set_past w.nodes place n' past)) x)
+      (cases_lt place (length w.nodes))
+
+  started_put : (k : ℕ) (n' : Node) → (with_node k n' w).all_started ≡ w.all_started
+  started_put zero n' = refl
+  started_put (suc place) n' = refl
+
   pub kept_put : (k : ℕ) (n' : Node) → ((place : ℕ) → k ≡ suc place → place < length w.nodes → IsAlike b m h.kept.spine k (node_at b w k) n') → Holds b m s0 (with_node k n' w)
-  kept_put k n' f = holds_on b m s0 w (with_node k n' w) h (onward_put k n' f)
+  kept_put k n' f = holds_on b m s0 w (with_node k n' w) h (record { onward = onward_put k n' f; started = started_put k n'; within = λ e x. within_change k n' f x })
 
   ok_at : (k place : ℕ) → k ≡ suc place → place < length w.nodes → NodeKept b m h.kept.spine k (node_at b w k)
   ok_at k place e inside = subst (λ (j : ℕ). NodeKept b m h.kept.spine j (node_at b w j)) (sym e) (h.kept.nodes place inside)
@@ -124,21 +136,22 @@ module _ (b : Start) (m : Machine) (s0 : Spine) (w : World) (h : Holds b m s0 w)
       answer false = h
 
   -- the same nodes and history, with other things beside them
-  pub refit : (flight : List Message) → All (InFlight b m h.kept.spine w) flight → (cuts : List (ℕ × ℕ)) (hold : Bool) (fires : List Placed)
+  pub refit : (flight : List Message) → All (InFlight b m h.kept.spine w) flight → (All (λ x. ChunkWithin w.placed x.body) w.flight → All (λ x. ChunkWithin w.placed x.body) flight) → (cuts : List (ℕ × ℕ)) (hold : Bool) (fires : List Placed)
       → Holds b m s0 (record w { flight = flight; cuts = cuts; hold = hold; fires = fires })
-  refit flight f cuts hold fires = record {
+  refit flight f g cuts hold fires = record {
     kept = refit_kept b m w h.kept flight f cuts hold w.takes w.opened w.all_started fires;
     since = h.since;
     count = h.count;
     took = All-weaker (Took b h.kept.spine w) (Took b h.kept.spine (record w { flight = flight; cuts = cuts; hold = hold; fires = fires })) (λ x t. record { led = t.led; within = t.within }) w.takes h.took;
     differ = h.differ;
+    longer = λ e. let x = h.longer e in record { nodes = x.nodes; flight = g x.flight };
   }
 
   without_all : (P : Message → Type 0) (xs : List Message) (place : ℕ) → All P xs → All P (without xs place)
   without_all P xs place f = All-append P (take place xs) (drop (suc place) xs) (All-take P place xs f) (All-drop P (suc place) xs f)
 
   pub kept_drops : (place : ℕ) → Holds b m s0 (record w { flight = without w.flight place })
-  kept_drops place = refit (without w.flight place) (without_all (InFlight b m h.kept.spine w) w.flight place h.kept.flight) w.cuts w.hold w.fires
+  kept_drops place = refit (without w.flight place) (without_all (InFlight b m h.kept.spine w) w.flight place h.kept.flight) (without_all (λ x. ChunkWithin w.placed x.body) w.flight place) w.cuts w.hold w.fires
 
 -- a leader is one of the nodes
 lead_inside : (b : Start) (w : World) (place : ℕ) → (node_at b w (suc place)).role ≡ Leader → place < length w.nodes
@@ -156,15 +169,16 @@ history_at b v k true p l ms = refl
 history_at b v k false p l ms = refl
 
 module _ (b : Start) (m : Machine) (s0 : Spine) (fit : IsFit b m) where
-  pub kept_delivers : (w : World) (h : Holds b m s0 w) (place : ℕ) (again : Bool) (stop : Option ℕ) (xs : List Message) → All (InFlight b m h.kept.spine w) xs → Holds b m s0 (delivers b m place again stop xs w)
+  pub kept_delivers : (w : World) (h : Holds b m s0 w) (place : ℕ) (again : Bool) (stop : Option ℕ) (xs : List Message) → All (InFlight b m h.kept.spine w) xs
+      → (w.all_started ≡ true → All (λ x. ChunkWithin w.placed x.body) xs) → Holds b m s0 (delivers b m place again stop xs w)
   unfolding kept_drops refit
-  kept_delivers w h place again stop [] f = h
-  kept_delivers w h place true stop (x ∷ xs) f = holds_on b m s0 w (arrives b m x stop w) h (kept_arrives b m fit w h.kept x.from x.to x.body (All-head (InFlight b m h.kept.spine w) x xs f) stop)
-  kept_delivers w h place false stop (x ∷ xs) f =
+  kept_delivers w h place again stop [] f g = h
+  kept_delivers w h place true stop (x ∷ xs) f g = holds_on b m s0 w (arrives b m x stop w) h (kept_arrives b m fit w h.kept x.from x.to x.body (All-head (InFlight b m h.kept.spine w) x xs f) (λ q. All-head (λ (y : Message). ChunkWithin w.placed y.body) x xs (g q)) stop)
+  kept_delivers w h place false stop (x ∷ xs) f g =
       let y = All-head (InFlight b m h.kept.spine w) x xs f in
       let v : World = record w { flight = without w.flight place } in
       let k : Holds b m s0 v = kept_drops b m s0 w h place in
-      holds_on b m s0 v (arrives b m x stop v) k (kept_arrives b m fit v k.kept x.from x.to x.body (moved k refl y) stop)
+      holds_on b m s0 v (arrives b m x stop v) k (kept_arrives b m fit v k.kept x.from x.to x.body (moved k refl y) (λ q. All-head (λ (y : Message). ChunkWithin w.placed y.body) x xs (g q)) stop)
     where
       moved : (k : Holds b m s0 (record w { flight = without w.flight place })) → k.kept.spine ≡ h.kept.spine → InFlight b m h.kept.spine w x → InFlight b m k.kept.spine (record w { flight = without w.flight place }) x
       moved k e y = subst (λ (s : Spine). InFlight b m s (record w { flight = without w.flight place }) x) (sym e)
@@ -173,12 +187,12 @@ module _ (b : Start) (m : Machine) (s0 : Spine) (fit : IsFit b m) where
   -- an event of a node's own
   pub holds_own : (w : World) (h : Holds b m s0 w) (place : ℕ) → place < length w.nodes → (event : CoreEvent)
       → Asked b m.len h.kept.spine (core_of b m (suc place) (node_at b w (suc place))) [] event
-      → Steps (suc place) (node_at b w (suc place)).base (node_at b w (suc place)).applied (on (core_of b m (suc place) (node_at b w (suc place))) event)
+      → Steps (suc place) (node_at b w (suc place)).base (node_at b w (suc place)).base (node_at b w (suc place)).applied (on (core_of b m (suc place) (node_at b w (suc place))) event)
       → (stop : Option ℕ) → Holds b m s0 (own_event b m (suc place) event stop w)
   holds_own w h place inside event a st stop = holds_on b m s0 w (own_event b m (suc place) event stop w) h (kept_own b m fit w h.kept place inside event a st stop)
 
-  past : (w : World) (h : Holds b m s0 w) (place : ℕ) → (inside : place < length w.nodes) → IsPast (suc place) (node_at b w (suc place)).base (node_at b w (suc place)).applied (core_of b m (suc place) (node_at b w (suc place)))
-  past w h place inside = record { same = refl; base = omega arith; commit = (h.kept.nodes place inside).to_commit }
+  past : (w : World) (h : Holds b m s0 w) (place : ℕ) → (inside : place < length w.nodes) → IsPast (suc place) (node_at b w (suc place)).base (node_at b w (suc place)).base (node_at b w (suc place)).applied (core_of b m (suc place) (node_at b w (suc place)))
+  past w h place inside = record { same = refl; base = omega arith; below = omega arith; commit = (h.kept.nodes place inside).to_commit }
 
   pub kept_timeout : (w : World) (h : Holds b m s0 w) (k : ℕ) (stop : Option ℕ) → Holds b m s0 (cond (node_at b w k).up (own_event b m k TimeoutEvent stop w) w)
   kept_timeout w h zero stop = h
@@ -189,7 +203,7 @@ module _ (b : Start) (m : Machine) (s0 : Spine) (fit : IsFit b m) where
       answer true e =
           let inside = up_inside b w place e in
           holds_own w h place inside TimeoutEvent tt
-          (timeout_steps (suc place) (node_at b w (suc place)).base (node_at b w (suc place)).applied (core_of b m (suc place) (node_at b w (suc place))) (past w h place inside)) stop
+          (timeout_steps (suc place) (node_at b w (suc place)).base (node_at b w (suc place)).base (node_at b w (suc place)).applied (core_of b m (suc place) (node_at b w (suc place))) (past w h place inside)) stop
 
   pub kept_beat : (w : World) (h : Holds b m s0 w) (k : ℕ) (stop : Option ℕ) → Holds b m s0 (cond ((node_at b w k).up && is_leader (node_at b w k).role) (own_event b m k BeatEvent stop w) w)
   kept_beat w h zero stop = h
@@ -201,15 +215,16 @@ module _ (b : Start) (m : Machine) (s0 : Spine) (fit : IsFit b m) where
           let y = and_parts (node_at b w (suc place)).up (is_leader (node_at b w (suc place)).role) e in
           let inside = up_inside b w place y.0 in
           holds_own w h place inside BeatEvent (leader_role (node_at b w (suc place)).role y.1)
-          (beat_steps (suc place) (node_at b w (suc place)).base (node_at b w (suc place)).applied (core_of b m (suc place) (node_at b w (suc place))) (past w h place inside)) stop
+          (beat_steps (suc place) (node_at b w (suc place)).base (node_at b w (suc place)).base (node_at b w (suc place)).applied (core_of b m (suc place) (node_at b w (suc place))) (past w h place inside)) stop
 
   -- an entry of a leader that has room is one of its term past all that were taken in it
-  taken : (w : World) (h : Holds b m s0 w) (place : ℕ) → place < length w.nodes → (node_at b w (suc place)).role ≡ Leader → (e : List ℕ) (v : World) → Onward b m h.kept.spine w v
+  taken : (w : World) (h : Holds b m s0 w) (place : ℕ) → place < length w.nodes → (node_at b w (suc place)).role ≡ Leader → (e : List ℕ) (v : World) → Forward b m h.kept.spine w v
       → ((node_at b v (suc place)).role ≡ Leader → suc (last_of b (node_at b w (suc place))) ≤ last_of b (node_at b v (suc place)))
       → Holds b m s0 (record v { takes = next_entry b (node_at b w (suc place)) e ∷ v.takes })
-  taken w h place inside lead e v o long =
+  taken w h place inside lead e v f long =
+      let o = f.onward in
       let x = next_entry b (node_at b w (suc place)) e in
-      let hv : Holds b m s0 v = holds_on b m s0 w v h o in
+      let hv : Holds b m s0 v = holds_on b m s0 w v h f in
       record {
         kept = refit_kept b m v o.kept v.flight o.kept.flight v.cuts v.hold (x ∷ v.takes) v.opened v.all_started v.fires;
         since = grows_both s0 h.kept.spine o.kept.spine h.since o.grows;
@@ -219,6 +234,7 @@ module _ (b : Start) (m : Machine) (s0 : Spine) (fit : IsFit b m) where
             (subst (λ (xs : List Placed). All (Took b o.kept.spine (record v { takes = x ∷ v.takes })) xs) (sym o.takes)
             (All-weaker (Took b h.kept.spine w) (Took b o.kept.spine (record v { takes = x ∷ v.takes }))
             (λ y t. let u = took_on b m h.kept.spine w v o y t in record { led = u.led; within = u.within }) w.takes h.took));
+        longer = λ e. let x = hv.longer e in record { nodes = x.nodes; flight = x.flight };
         differ = one_differs v x (differs_on b m s0 w v h o)
             (subst (λ (xs : List Placed). All (λ (y : Placed). y.term ≡ x.term → y.index < x.index) xs) (sym o.takes)
             (All-weaker (Took b h.kept.spine w) (λ (y : Placed). y.term ≡ x.term → y.index < x.index)
@@ -231,14 +247,14 @@ module _ (b : Start) (m : Machine) (s0 : Spine) (fit : IsFit b m) where
       before : h.kept.spine.leader (node_at b w (suc place)).term ≢ 0
       before z = let q = sym leads ∙ z in (let r : ⊥ = omega (arith, q) in r)
 
-      now : o.kept.spine.leader (node_at b w (suc place)).term ≡ h.kept.spine.leader (node_at b w (suc place)).term
-      now = o.grows.leader (node_at b w (suc place)).term before
+      now : f.onward.kept.spine.leader (node_at b w (suc place)).term ≡ h.kept.spine.leader (node_at b w (suc place)).term
+      now = f.onward.grows.leader (node_at b w (suc place)).term before
 
       here : (k : ℕ) → (node_at b v k).role ≡ Leader → (node_at b v k).term ≡ (node_at b w (suc place)).term → k ≡ suc place
       here zero l te = absurd (let q : Follower ≡ Leader = l in cc)
       here (suc q) l te =
-          let c = (o.kept.nodes q (lead_inside b v q l)).tied.leading l in
-          sym c.leads ∙ (ap o.kept.spine.leader te ∙ (now ∙ leads))
+          let c = (f.onward.kept.nodes q (lead_inside b v q l)).tied.leading l in
+          sym c.leads ∙ (ap f.onward.kept.spine.leader te ∙ (now ∙ leads))
 
   -- the node after its entry was appended
   after_entry : (w : World) (h : Holds b m s0 w) (place : ℕ) → place < length w.nodes → (e : List ℕ) (stop : Option ℕ)
@@ -272,7 +288,7 @@ module _ (b : Start) (m : Machine) (s0 : Spine) (fit : IsFit b m) where
       let inside = up_inside b w place y.0 in
       let lead = leader_role n.role z.0 in
       let v = own_event b m (suc place) (CommandEvent e) stop w in
-      taken w h place inside lead e v (kept_own b m fit w h.kept place inside (CommandEvent e) lead (own_steps (suc place) n.base n.applied (core_of b m (suc place) n) e (past w h place inside)) stop)
+      taken w h place inside lead e v (kept_own b m fit w h.kept place inside (CommandEvent e) lead (own_steps (suc place) n.base n.base n.applied (core_of b m (suc place) n) e (past w h place inside)) stop)
       (after_entry w h place inside e stop)
 
   pub kept_fire : (w : World) (h : Holds b m s0 w) (place : ℕ) (e : List ℕ) (stop : Option ℕ) → may_append b (node_at b w (suc place)) ≡ true → Holds b m s0 (own_event b m (suc place) (FireEvent e) stop w)
@@ -281,4 +297,4 @@ module _ (b : Start) (m : Machine) (s0 : Spine) (fit : IsFit b m) where
       let y = and_parts n.up (is_leader n.role && nat_lt (last_of b n) MAX_INDEX) q in
       let z = and_parts (is_leader n.role) (nat_lt (last_of b n) MAX_INDEX) y.1 in
       let inside = up_inside b w place y.0 in
-      holds_own w h place inside (FireEvent e) (leader_role n.role z.0) (fire_steps (suc place) n.base n.applied (core_of b m (suc place) n) e (past w h place inside)) stop
+      holds_own w h place inside (FireEvent e) (leader_role n.role z.0) (fire_steps (suc place) n.base n.base n.applied (core_of b m (suc place) n) e (past w h place inside)) stop

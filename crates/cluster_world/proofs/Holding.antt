@@ -11,7 +11,7 @@ use Rattle.raft_spine.proofs.Grow.{grows_both}
 use Rattle.raft_claims.specs.Events.{whole_after}
 use Rattle.cluster_world.specs.World.{Machine, Placed, World, nodes_of, last_of, node_at}
 use Rattle.cluster_world.specs.Facts.{TakesDiffer}
-use Rattle.cluster_world.proofs.Keeping.{Kept, Onward}
+use Rattle.cluster_world.proofs.Keeping.{Kept, Onward, Within, Forward}
 
 -- what a leader took: the term has its leader, and who leads in it now has the entry's place in its log
 pub record Took (b : Start) (s : Spine) (w : World) (x : Placed) : Type 0 where
@@ -24,6 +24,7 @@ pub record Holds (b : Start) (m : Machine) (s0 : Spine) (w : World) : Type 0 whe
   pub count : length w.nodes ≡ nodes_of b
   pub took : All (Took b kept.spine w) w.takes
   pub differ : TakesDiffer w
+  pub longer : w.all_started ≡ true → Within b w
 
 pub took_on : (b : Start) (m : Machine) (s : Spine) (w w' : World) (o : Onward b m s w w') (x : Placed) → Took b s w x → Took b o.kept.spine w' x
 took_on b m s w w' o x t = record {
@@ -41,14 +42,15 @@ differs_on b m s0 w w' h o i j d li lj =
     (sym o.takes) (h.differ i j d) li lj
 
 -- what holds goes on
-pub holds_on : (b : Start) (m : Machine) (s0 : Spine) (w w' : World) (h : Holds b m s0 w) → Onward b m h.kept.spine w w' → Holds b m s0 w'
-holds_on b m s0 w w' h o = record {
+pub holds_on : (b : Start) (m : Machine) (s0 : Spine) (w w' : World) (h : Holds b m s0 w) → Forward b m h.kept.spine w w' → Holds b m s0 w'
+holds_on b m s0 w w' h f = let o = f.onward in record {
   kept = o.kept;
   since = grows_both s0 h.kept.spine o.kept.spine h.since o.grows;
   count = o.count ∙ h.count;
   took = subst (λ (xs : List Placed). All (Took b o.kept.spine w') xs) (sym o.takes)
       (All-weaker (Took b h.kept.spine w) (Took b o.kept.spine w') (λ x t. took_on b m h.kept.spine w w' o x t) w.takes h.took);
   differ = differs_on b m s0 w w' h o;
+  longer = λ e. f.within (sym f.started ∙ e) (h.longer (sym f.started ∙ e));
 }
 
 -- one more take, of an index past all others of its term

@@ -27,6 +27,7 @@ use Rattle.raft_claims.proofs.Claims.{claim_stays}
 use Rattle.raft_claims.proofs.Turns.{tied_stays}
 use Rattle.cluster_world.specs.World.{Machine, Held, Node, World, nobody, core_of, last_of, node_at}
 use Rattle.cluster_world.specs.Events.{with_node}
+use Rattle.cluster_world.proofs.Steps.{ChunkWithin}
 use Rattle.cluster_world.proofs.Roles.{LeadsHow}
 
 -- the bytes held of a snapshot are no more than it has; what it stands for is decided
@@ -183,8 +184,33 @@ pub record Onward (b : Start) (m : Machine) (s : Spine) (w w' : World) : Type 0 
   pub further : (k : ℕ) → Further b s (node_at b w k) (node_at b w' k)
   pub takes : w'.takes ≡ w.takes
 
+-- no node has applied more than the history's length, nor is a snapshot on its way that stands for more
+pub record Within (b : Start) (w : World) : Type 0 where
+  pub nodes : (place : ℕ) → place < length w.nodes → (node_at b w (suc place)).applied ≤ w.placed
+  pub flight : All (λ x. ChunkWithin w.placed x.body) w.flight
+
+-- the same, and the history stays long enough
+pub record Forward (b : Start) (m : Machine) (s : Spine) (w w' : World) : Type 0 where
+  pub onward : Onward b m s w w'
+  pub started : w'.all_started ≡ w.all_started
+  pub within : w.all_started ≡ true → Within b w → Within b w'
+
+pub within_put : (b : Start) (w : World) (place : ℕ) (n' : Node) → place < length w.nodes → Within b w → n'.applied ≤ w.placed → Within b (with_node (suc place) n' w)
+within_put b w place n' inside x le = record {
+  nodes = λ q lt. ⊎_elim
+      (λ (e : q ≡ place). subst (λ (k : ℕ). (node_at b (with_node (suc place) n' w) (suc k)).applied ≤ w.placed) (sym e)
+      (subst (λ (n : Node). n.applied ≤ w.placed) (sym (with_node_same b w place n' inside)) le))
+      (λ (d : q ≢ place). let l = length_set w.nodes place n' in
+      subst (λ (n : Node). n.applied ≤ w.placed) (sym (with_node_other b w place n' (suc q) (λ e. d (let z : q ≡ place = omega (arith, e) in z)))) (x.nodes q (omega (arith, lt, l))))
+      (cases_eq q place);
+  flight = x.flight;
+}
+
 pub onward_same : (b : Start) (m : Machine) (w : World) (h : Kept b m w) → Onward b m h.spine w w
 onward_same b m w h = record { kept = h; grows = grows_same h.spine; count = refl; further = λ k. further_same b h.spine (node_at b w k); takes = refl }
+
+pub forward_same : (b : Start) (m : Machine) (w : World) (h : Kept b m w) → Forward b m h.spine w w
+forward_same b m w h = record { onward = onward_same b m w h; started = refl; within = λ e x. x }
 
 -- what becomes of a node by its own moves
 pub record Becomes (b : Start) (m : Machine) (s : Spine) (k : ℕ) (n n' : Node) : Type 0 where

@@ -1,7 +1,7 @@
 -- An event of one node keeps what holds of a world.
 use Rattle.std.proofs.Common.{◌≡◌, ◌≢◌, ℕ, zero, suc, ◌+◌, ◌-◌, ◌<◌, ◌≤◌, max, Bool, true, false, cond, ◌&&◌, nat_lt, nat_le, All, List, [], ◌∷◌, ◌++◌, length, take, drop, get_or, refl, sym, ap, ◌∙◌, subst, arith, ◌⊎◌, inl, inr, ⊎_elim, take-add, take_all, take-take, length-take-le}
-use Rattle.std.proofs.lemmas.Bool.{leb-true, ltb-true, and_parts}
-use Rattle.std.proofs.lemmas.List.Elements.{All-head, All-tail, All-push}
+use Rattle.std.proofs.lemmas.Bool.{cases_lt, leb-true, ltb-true, le-leb, lt-ltb, and_parts}
+use Rattle.std.proofs.lemmas.List.Elements.{All-head, All-tail, All-push, All-weaker}
 use Rattle.raft_types.specs.declared.entry.LogEntry.{LogEntry}
 use Rattle.raft_types.specs.declared.event.CoreEvent.{CoreEvent}
 use Rattle.raft_types.specs.declared.item.Item.{Item}
@@ -31,10 +31,10 @@ use Rattle.raft_claims.proofs.Stores.{store_starts}
 use Rattle.cluster_world.specs.World.{Machine, Held, nothing_held, Node, World, nodes_of, log_of, core_of, node_at}
 use Rattle.cluster_world.specs.Node.{applies, ended, halted}
 use Rattle.cluster_world.specs.Events.{with_node, MAX_IN_FLIGHT, sent, grows_by}
-use Rattle.cluster_world.proofs.Steps.{OwnChunk, Goes, Steps}
+use Rattle.cluster_world.proofs.Steps.{ChunkWithin, OwnChunk, Goes, Steps}
 use Rattle.cluster_world.proofs.Roles.{LeadsHow}
 use Rattle.raft_types.specs.declared.state.Role.TheVariants.{Follower, Leader}
-use Rattle.cluster_world.proofs.Keeping.{HeldOf, NodeKept, ChunkOf, InFlight, HistoryKept, Kept, Onward, Becomes, kept_node, onward_node, with_node_same}
+use Rattle.cluster_world.proofs.Keeping.{HeldOf, NodeKept, ChunkOf, InFlight, HistoryKept, Kept, Onward, Within, within_put, Becomes, kept_node, onward_node, with_node_same}
 
 -- items that don't start the log anew leave its base
 base_stays : (l : LogParts) (items : List Item) → starts_anew items ≡ false → (log_after l items).base ≡ l.base
@@ -72,9 +72,6 @@ parts_are d i n l z p q r t =
     ∙ ap (λ (x : ℕ). with_parts d d.id d.nodes d.log x) (sym t)))
 
 module _ (b : Start) (m : Machine) (s : Spine) (k : ℕ) (n : Node) (ok : NodeKept b m s k n) (sender : List LogEntry) (event : CoreEvent) where
-  abbrev out : Out
-  out = on (core_of b m k n) event
-
   -- the core of the node that ends the event is the step's: its log, read from the base up, stands for the whole one
   pub core_is : (held : Held) → Turned b m.len s (core_of b m k n) n.whole (on (core_of b m k n) event) (whole_after b sender n.whole (on (core_of b m k n) event).items)
       → core_of b m k (ended b m sender n held (on (core_of b m k n) event)) ≡ (on (core_of b m k n) event).core
@@ -84,8 +81,12 @@ module _ (b : Start) (m : Machine) (s : Spine) (k : ℕ) (n : Node) (ok : NodeKe
       parts_are d k (nodes_of b) (compacted (whole_log b after) d.log.base) (m.len (take (d.log.base - b.base) after))
       (same_id (core_of b m k n) event) (same_nodes (core_of b m k n) event) q.tied.stands_for q.tied.size
 
+module _ (b : Start) (m : Machine) (s : Spine) (k : ℕ) (n : Node) (ok : NodeKept b m s k n) (sender : List LogEntry) (event : CoreEvent) (high : ℕ) where
+  abbrev out : Out
+  out = on (core_of b m k n) event
+
   abbrev ended_becomes : (held : Held) → (q : Turned b m.len s (core_of b m k n) n.whole (on (core_of b m k n) event) (whole_after b sender n.whole (on (core_of b m k n) event).items))
-      → Steps k n.base n.applied (on (core_of b m k n) event) → LeadsHow n.role n.term (on (core_of b m k n) event).core.role (on (core_of b m k n) event).core.term
+      → Steps k n.base high n.applied (on (core_of b m k n) event) → LeadsHow n.role n.term (on (core_of b m k n) event).core.role (on (core_of b m k n) event).core.term
       → (held.count ≡ 0) ⊎ HeldOf b m.len (moved_all q.moves s) held
       → Becomes b m s k n (ended b m sender n held (on (core_of b m k n) event))
   ended_becomes held q st how hk =
@@ -101,7 +102,7 @@ module _ (b : Start) (m : Machine) (s : Spine) (k : ℕ) (n : Node) (ok : NodeKe
         mine = q.mine;
         can = q.can;
         kept = record {
-          tied = subst (λ (d : CoreParts). Tied b m.len (moved_all q.moves s) d after) (sym (core_is held q)) q.tied;
+          tied = subst (λ (d : CoreParts). Tied b m.len (moved_all q.moves s) d after) (sym (core_is b m s k n ok sender event held q)) q.tied;
           from_base = omega (arith, r0);
           to_commit = omega (arith, r1, kn, cm);
           holds = chosen (starts_anew o.items) (moved_all q.moves s) hk;
@@ -117,7 +118,7 @@ module _ (b : Start) (m : Machine) (s : Spine) (k : ℕ) (n : Node) (ok : NodeKe
 
   -- what the node sends may be in flight
   said_flight : (held : Held) → (q : Turned b m.len s (core_of b m k n) n.whole (on (core_of b m k n) event) (whole_after b sender n.whole (on (core_of b m k n) event).items))
-      → Sound b (moved_all q.moves s) → Steps k n.base n.applied (on (core_of b m k n) event) → (w : World) → node_at b w k ≡ ended b m sender n held (on (core_of b m k n) event)
+      → Sound b (moved_all q.moves s) → Steps k n.base high n.applied (on (core_of b m k n) event) → (w : World) → node_at b w k ≡ ended b m sender n held (on (core_of b m k n) event)
       → All (InFlight b m (moved_all q.moves s) w) (on (core_of b m k n) event).messages
   said_flight held q sound st w e i d lt = flies (get_or o.messages i d) (q.said i d lt) (st.goes i d lt)
     where
@@ -157,7 +158,7 @@ module _ (b : Start) (m : Machine) (s : Spine) (k : ℕ) (n : Node) (ok : NodeKe
   -- the node that stops in the event
   halted_becomes : (j : ℕ)
       → Stopped b m.len s (core_of b m k n) n.whole (on (core_of b m k n) event) (kept j (on (core_of b m k n) event).items) (whole_after b sender n.whole (kept j (on (core_of b m k n) event).items))
-      → Steps k n.base n.applied (on (core_of b m k n) event)
+      → Steps k n.base high n.applied (on (core_of b m k n) event)
       → Becomes b m s k n (halted b sender n (kept j (on (core_of b m k n) event).items))
   halted_becomes j q st =
       let c = core_of b m k n in
@@ -289,7 +290,58 @@ kept_after b m w h place inside n lo at n' x ms said =
     (w.history ++ take (n'.applied - w.placed) (drop (w.placed - b.base) n'.whole)) ms said
     (history_grows b m h1.spine (reached_sound b h1.spine h1.reached) (with_node (suc place) n' w) h1.history (suc place) n n' x.kept lo at)
 
-module _ (b : Start) (m : Machine) (w : World) (h : Kept b m w) (place : ℕ) (inside : place < length w.nodes) (n : Node) (is : node_at b w (suc place) ≡ n) (sender : List LogEntry) (event : CoreEvent) where
+both : {g k : Bool} → g ≡ true → k ≡ true → (g && k) ≡ true
+both {g} {k} p q = ap (λ (x : Bool). x && k) p ∙ q
+
+-- a core's own chunks stand for no more than its base
+own_within : (d : CoreParts) (p : ℕ) → d.log.base ≤ p → (body : Body) → OwnChunk d body → ChunkWithin p body
+own_within d p le (Vote t li l) x = tt
+own_within d p le (VoteReply t r) x = tt
+own_within d p le (Append t pi pt es mc) x = tt
+own_within d p le (AppendReply t r i) x = tt
+own_within d p le (Chunk t i bt off total bytes) x = let x1 = x.1 in omega (arith, x1, le)
+own_within d p le (ChunkReply t i off) x = tt
+
+within_more : (p q : ℕ) → p ≤ q → (body : Body) → ChunkWithin p body → ChunkWithin q body
+within_more p q le (Vote t li l) x = tt
+within_more p q le (VoteReply t r) x = tt
+within_more p q le (Append t pi pt es mc) x = tt
+within_more p q le (AppendReply t r i) x = tt
+within_more p q le (Chunk t i bt off total bytes) x = omega (arith, x, le)
+within_more p q le (ChunkReply t i off) x = tt
+
+-- a node that had applied no more than the history's length, and got nothing past it, has the history grow with it
+within_after : (b : Start) (w : World) (place : ℕ) → place < length w.nodes → (n n' : Node) (ms : List Message) → Within b w → max n.applied n'.base ≤ w.placed
+    → All (λ x. ChunkWithin w.placed x.body) ms → Within b (after_node b (suc place) n n' ms w)
+within_after b w place inside n n' ms x le own =
+    answer (nat_le (max n.applied n'.base) w.placed && nat_lt w.placed n'.applied) refl (w.history ++ take (n'.applied - w.placed) (drop (w.placed - b.base) n'.whole))
+  where
+    answer : (g : Bool) → (nat_le (max n.applied n'.base) w.placed && nat_lt w.placed n'.applied) ≡ g → (l : List LogEntry)
+        → Within b (record (cond g (record (with_node (suc place) n' w) { placed = n'.applied; history = l }) (with_node (suc place) n' w)) {
+          flight = sent (cond g (record (with_node (suc place) n' w) { placed = n'.applied; history = l }) (with_node (suc place) n' w)).flight ms;
+        })
+    answer true e l =
+        let lt = ltb-true w.placed n'.applied (and_parts (nat_le (max n.applied n'.base) w.placed) (nat_lt w.placed n'.applied) e).1 in
+        let y = within_put b (record w { placed = n'.applied }) place n' inside
+        (record {
+          nodes = λ q i. let z = x.nodes q i in (let r : (node_at b w (suc q)).applied ≤ n'.applied = omega (arith, z, lt) in r);
+          flight = All-weaker (λ (m : Message). ChunkWithin w.placed m.body) (λ (m : Message). ChunkWithin n'.applied m.body) (λ m c. within_more w.placed n'.applied (omega (arith, lt)) m.body c) w.flight x.flight;
+        }) (omega arith) in
+        record {
+          nodes = y.nodes;
+          flight = sent_all (λ (m : Message). ChunkWithin n'.applied m.body) w.flight ms y.flight
+              (All-weaker (λ (m : Message). ChunkWithin w.placed m.body) (λ (m : Message). ChunkWithin n'.applied m.body) (λ m c. within_more w.placed n'.applied (omega (arith, lt)) m.body c) ms own);
+        }
+    answer false e l =
+        let y = within_put b w place n' inside x (⊎_elim
+        (λ (lt : w.placed < n'.applied).
+        let q : (nat_le (max n.applied n'.base) w.placed && nat_lt w.placed n'.applied) ≡ true = both (le-leb (max n.applied n'.base) w.placed le) (lt-ltb w.placed n'.applied lt) in
+        absurd (let z : true ≡ false = sym q ∙ e in cc))
+        (λ (ge : n'.applied ≤ w.placed). ge)
+        (cases_lt w.placed n'.applied)) in
+        record { nodes = y.nodes; flight = sent_all (λ (m : Message). ChunkWithin w.placed m.body) w.flight ms y.flight own }
+
+module _ (b : Start) (m : Machine) (w : World) (h : Kept b m w) (place : ℕ) (inside : place < length w.nodes) (n : Node) (is : node_at b w (suc place) ≡ n) (sender : List LogEntry) (event : CoreEvent) (high : ℕ) where
   ok_here : NodeKept b m h.spine (suc place) n
   ok_here = subst (λ (x : Node). NodeKept b m h.spine (suc place) x) is (h.nodes place inside)
 
@@ -307,21 +359,46 @@ module _ (b : Start) (m : Machine) (w : World) (h : Kept b m w) (place : ℕ) (i
   -- where the node stops
   pub kept_stopped : (j : ℕ)
       → Stopped b m.len h.spine (core_of b m (suc place) n) n.whole (on (core_of b m (suc place) n) event) (kept j (on (core_of b m (suc place) n) event).items) (whole_after b sender n.whole (kept j (on (core_of b m (suc place) n) event).items))
-      → Steps (suc place) n.base n.applied (on (core_of b m (suc place) n) event)
+      → Steps (suc place) n.base high n.applied (on (core_of b m (suc place) n) event)
       → Onward b m h.spine w (with_node (suc place) (halted b sender n (kept j (on (core_of b m (suc place) n) event).items)) w)
   kept_stopped j q st =
       onward_node b m w h place inside (halted b sender n (kept j (on (core_of b m (suc place) n) event).items))
-      (here (halted b sender n (kept j (on (core_of b m (suc place) n) event).items)) (halted_becomes b m h.spine (suc place) n ok_here sender event j q st))
+      (here (halted b sender n (kept j (on (core_of b m (suc place) n) event).items)) (halted_becomes b m h.spine (suc place) n ok_here sender event high j q st))
 
   -- where it ends the event
   pub kept_ended : (held : Held) → (q : Turned b m.len h.spine (core_of b m (suc place) n) n.whole (on (core_of b m (suc place) n) event) (whole_after b sender n.whole (on (core_of b m (suc place) n) event).items))
-      → Steps (suc place) n.base n.applied (on (core_of b m (suc place) n) event)
+      → Steps (suc place) n.base high n.applied (on (core_of b m (suc place) n) event)
       → LeadsHow n.role n.term (on (core_of b m (suc place) n) event).core.role (on (core_of b m (suc place) n) event).core.term → (held.count ≡ 0) ⊎ HeldOf b m.len (moved_all q.moves h.spine) held
       → Onward b m h.spine w (after_node b (suc place) n (ended b m sender n held (on (core_of b m (suc place) n) event)) (on (core_of b m (suc place) n) event).messages w)
   kept_ended held q st how hk =
       let n' = ended b m sender n held (on (core_of b m (suc place) n) event) in
-      let x = ended_becomes b m h.spine (suc place) n ok_here sender event held q st how hk in
+      let x = ended_becomes b m h.spine (suc place) n ok_here sender event high held q st how hk in
       let y : Becomes b m h.spine (suc place) n n' = record { moves = q.moves; mine = q.mine; can = q.can; kept = x.kept; base = x.base; front = x.front; how = x.how } in
       kept_after b m w h place inside n ok_here.tied.based ok_here.from_base n' (here n' y) (on (core_of b m (suc place) n) event).messages
-      (said_flight b m h.spine (suc place) n ok_here sender event held q (moves_sound b h.reached.start.low h.spine (reached_sound b h.spine h.reached) q.moves q.can) st (with_node (suc place) n' w)
+      (said_flight b m h.spine (suc place) n ok_here sender event high held q (moves_sound b h.reached.start.low h.spine (reached_sound b h.spine h.reached) q.moves q.can) st (with_node (suc place) n' w)
       (with_node_same b w place n' inside))
+
+  -- what it has applied then is in the history, where the history was long enough before and what it gets is in it
+  pub within_stopped : (j : ℕ) → Steps (suc place) n.base high n.applied (on (core_of b m (suc place) n) event) → Within b w → high ≤ w.placed
+      → Within b (with_node (suc place) (halted b sender n (kept j (on (core_of b m (suc place) n) event).items)) w)
+  within_stopped j st x le =
+      within_put b w place (halted b sender n (kept j (on (core_of b m (suc place) n) event).items)) inside x
+      (⊎_elim
+      (λ (e : starts_anew (kept j (on (core_of b m (suc place) n) event).items) ≡ false).
+      let z = base_stays (log_of b n) (kept j (on (core_of b m (suc place) n) event).items) e in let fb = ok_here.from_base in
+      let ap0 : n.applied ≤ w.placed = subst (λ (y : Node). y.applied ≤ w.placed) is (x.nodes place inside) in
+      omega (arith, z, fb, ap0))
+      (λ (e : kept j (on (core_of b m (suc place) n) event).items ≡ (on (core_of b m (suc place) n) event).items).
+      let t = (items_tell (core_of b m (suc place) n) event).log in
+      let y = ap (λ (l : LogParts). l.base) (ap (log_after (log_of b n)) e ∙ t) in let z = st.past.below in
+      omega (arith, y, z, le))
+      (kept_parts j (on (core_of b m (suc place) n) event).items))
+
+  pub within_ended : (held : Held) → Steps (suc place) n.base high n.applied (on (core_of b m (suc place) n) event) → Within b w → high ≤ w.placed
+      → Within b (after_node b (suc place) n (ended b m sender n held (on (core_of b m (suc place) n) event)) (on (core_of b m (suc place) n) event).messages w)
+  within_ended held st x le =
+      let o = on (core_of b m (suc place) n) event in
+      let bl = st.past.below in
+      let ap0 : n.applied ≤ w.placed = subst (λ (y : Node). y.applied ≤ w.placed) is (x.nodes place inside) in
+      within_after b w place inside n (ended b m sender n held o) o.messages x (omega (arith, bl, le, ap0))
+      (All-weaker (Goes o.core) (λ y. ChunkWithin w.placed y.body) (λ y g. own_within o.core w.placed (omega (arith, bl, le)) y.body g.chunk) o.messages st.goes)

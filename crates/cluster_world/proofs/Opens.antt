@@ -1,7 +1,8 @@
 -- The opening of a world.
-use Rattle.std.proofs.Common.{◌≡◌, ◌≢◌, ℕ, zero, suc, ◌-◌, ◌<◌, ◌≤◌, max, Bool, true, false, cond, ◌&&◌, nat_lt, nat_le, ◌==◌, List, [], ◌∷◌, ◌++◌, length, take, drop, get_or, map, Option, Some, None, refl, sym, ap, ◌∙◌, subst, arith, ◌⊎◌, inl, inr, ⊎_elim, length-take, length-take-le}
+use Rattle.std.proofs.Common.{◌≡◌, ◌≢◌, ℕ, zero, suc, ◌-◌, ◌<◌, ◌≤◌, max, Bool, true, false, cond, ◌&&◌, nat_lt, nat_le, ◌==◌, All, List, [], ◌∷◌, ◌++◌, length, take, drop, get_or, map, Option, Some, None, refl, sym, ap, ◌∙◌, subst, arith, ◌⊎◌, inl, inr, ⊎_elim, length-take, length-take-le, append_assoc}
 use Rattle.std.proofs.lemmas.Bool.{cases_lt, cases_eq, eqb-true, eq-eqb, and_parts}
 use Rattle.std.proofs.lemmas.List.Elements.{All-nil, All-weaker}
+use Rattle.raft_types.specs.declared.message.Message.{Message}
 use Rattle.raft_types.specs.declared.entry.LogEntry.{LogEntry}
 use Rattle.raft_types.specs.declared.event.CoreEvent.TheVariants.{Raise as RaiseEvent}
 use Rattle.raft_types.specs.declared.state.Role.TheVariants.{Follower}
@@ -16,7 +17,7 @@ use Rattle.cluster_world.specs.World.{Machine, Node, World, nodes_of, nobody, lo
 use Rattle.cluster_world.specs.Node.{applied_before, ended, is_due, tidied, tidied_if_due}
 use Rattle.cluster_world.specs.Events.{Opening, with_node, own_event, tidies, tidies_if_due, starts, fails_to_start, opening_of, all_start, greatest_term, greatest_base, front_at, all_up, all_raise, opens}
 use Rattle.cluster_world.specs.Facts.{IsFit}
-use Rattle.cluster_world.proofs.Steps.{raise_steps}
+use Rattle.cluster_world.proofs.Steps.{ChunkWithin, raise_steps}
 use Rattle.cluster_world.proofs.Keeping.{NodeKept, InFlight, Kept, up_inside, with_node_same, with_node_other}
 use Rattle.cluster_world.proofs.Worlds.{refreshed_kept}
 use Rattle.cluster_world.proofs.Holding.{Took, Holds}
@@ -26,43 +27,66 @@ use Rattle.cluster_world.proofs.Happens.{holds_own, kept_starts, kept_fails, kep
 abbrev pub AllFollow : Start → World → Type 0
 AllFollow b w = (k : ℕ) → (node_at b w k).role ≡ Follower
 
-follow_put : (b : Start) (w : World) → AllFollow b w → (k : ℕ) (n : Node) → n.role ≡ Follower → AllFollow b (with_node k n w)
-follow_put b w f zero n e = f
-follow_put b w f (suc place) n e = λ k. ⊎_elim
-    (λ (q : k ≡ suc place). subst (λ (j : ℕ). (node_at b (with_node (suc place) n w) j).role ≡ Follower) (sym q) (⊎_elim
-    (λ (inside : place < length w.nodes). ap (λ (x : Node). x.role) (with_node_same b w place n inside) ∙ e)
-    (λ (past : length w.nodes ≤ place). ap (λ (ns : List Node). (get_or ns place (nobody b)).role) (set_past w.nodes place n past) ∙ f (suc place))
+-- a node that has just started, or stands still
+abbrev IsFresh : Node → Type 0
+IsFresh n = (n.role ≡ Follower) × (n.applied ≡ n.base)
+
+-- a property of all nodes stays where a node comes to have it
+all_put : (b : Start) (P : Node → Type 0) (w : World) → ((k : ℕ) → P (node_at b w k)) → (k : ℕ) (n : Node) → P n → (j : ℕ) → P (node_at b (with_node k n w) j)
+all_put b P w f zero n e = f
+all_put b P w f (suc place) n e = λ k. ⊎_elim
+    (λ (q : k ≡ suc place). subst (λ (j : ℕ). P (node_at b (with_node (suc place) n w) j)) (sym q) (⊎_elim
+    (λ (inside : place < length w.nodes). subst P (sym (with_node_same b w place n inside)) e)
+    (λ (past : length w.nodes ≤ place). subst (λ (ns : List Node). P (get_or ns place (nobody b))) (sym (set_past w.nodes place n past)) (f (suc place)))
     (cases_lt place (length w.nodes))))
-    (λ (q : k ≢ suc place). ap (λ (x : Node). x.role) (with_node_other b w place n k q) ∙ f k)
+    (λ (q : k ≢ suc place). subst P (sym (with_node_other b w place n k q)) (f k))
     (cases_eq k (suc place))
 
-due_follow : (b : Start) (n : Node) → n.role ≡ Follower → (tidied_if_due b n).role ≡ Follower
-due_follow b n e = answer (is_due b n)
-  where
-    answer : (g : Bool) → (cond g (tidied b n) n).role ≡ Follower
-    answer true = e
-    answer false = e
+follow_put : (b : Start) (w : World) → AllFollow b w → (k : ℕ) (n : Node) → n.role ≡ Follower → AllFollow b (with_node k n w)
+follow_put b w f k n e = all_put b (λ (x : Node). x.role ≡ Follower) w f k n e
 
 -- a world that opens
 record Opens (b : Start) (m : Machine) (s0 : Spine) (w : World) : Type 0 where
   kept : Holds b m s0 w
   follow : AllFollow b w
 
-fails_follow : (b : Start) (w : World) → AllFollow b w → (k : ℕ) (replaced : Bool) → AllFollow b (fails_to_start b k replaced w)
-fails_follow b w f k true = follow_put b w f k (refreshed b false (tidied_if_due b (refreshed b false (node_at b w k)))) refl
-fails_follow b w f k false = follow_put b w f k (refreshed b false (node_at b w k)) refl
+-- as the nodes start, each follows and has applied what its base stands for, and nothing is in flight
+record Starting (b : Start) (m : Machine) (s0 : Spine) (w : World) : Type 0 where
+  kept : Holds b m s0 w
+  fresh : (k : ℕ) → IsFresh (node_at b w k)
+  empty : w.flight ≡ []
 
-all_starts : (b : Start) (m : Machine) (s0 : Spine) (openings : List Opening) (ks : List ℕ) (w : World) → Opens b m s0 w → Opens b m s0 (all_start b openings ks w)
+due_fresh : (b : Start) (up : Bool) (n : Node) → IsFresh (tidied_if_due b (refreshed b up n))
+due_fresh b up n = answer (is_due b (refreshed b up n))
+  where
+    answer : (g : Bool) → IsFresh (cond g (tidied b (refreshed b up n)) (refreshed b up n))
+    answer true = (refl, refl)
+    answer false = (refl, refl)
+
+fails_fresh : (b : Start) (w : World) → ((k : ℕ) → IsFresh (node_at b w k)) → (k : ℕ) (replaced : Bool) (j : ℕ) → IsFresh (node_at b (fails_to_start b k replaced w) j)
+fails_fresh b w f k true = all_put b IsFresh w f k (refreshed b false (tidied_if_due b (refreshed b false (node_at b w k)))) (refl, refl)
+fails_fresh b w f k false = all_put b IsFresh w f k (refreshed b false (node_at b w k)) (refl, refl)
+
+flight_put : (k : ℕ) (n : Node) (w : World) → w.flight ≡ [] → (with_node k n w).flight ≡ []
+flight_put zero n w e = e
+flight_put (suc place) n w e = e
+
+fails_empty : (b : Start) (w : World) → w.flight ≡ [] → (k : ℕ) (replaced : Bool) → (fails_to_start b k replaced w).flight ≡ []
+fails_empty b w e k true = flight_put k (refreshed b false (tidied_if_due b (refreshed b false (node_at b w k)))) w e
+fails_empty b w e k false = flight_put k (refreshed b false (node_at b w k)) w e
+
+all_starts : (b : Start) (m : Machine) (s0 : Spine) (openings : List Opening) (ks : List ℕ) (w : World) → Starting b m s0 w → Starting b m s0 (all_start b openings ks w)
 all_starts b m s0 openings [] w o = o
 all_starts b m s0 openings (k ∷ ks) w o =
     all_starts b m s0 openings ks (cond (opening_of openings k).starts (starts b k w) (fails_to_start b k (opening_of openings k).replaced w)) (answer (opening_of openings k).starts (opening_of openings k).replaced)
   where
-    answer : (g r : Bool) → Opens b m s0 (cond g (starts b k w) (fails_to_start b k r w))
+    answer : (g r : Bool) → Starting b m s0 (cond g (starts b k w) (fails_to_start b k r w))
     answer true r = record {
       kept = kept_starts b m s0 w o.kept k;
-      follow = follow_put b w o.follow k (tidied_if_due b (refreshed b true (node_at b w k))) (due_follow b (refreshed b true (node_at b w k)) refl);
+      fresh = all_put b IsFresh w o.fresh k (tidied_if_due b (refreshed b true (node_at b w k))) (due_fresh b true (node_at b w k));
+      empty = flight_put k (tidied_if_due b (refreshed b true (node_at b w k))) w o.empty;
     }
-    answer false r = record { kept = kept_fails b m s0 w o.kept k r; follow = fails_follow b w o.follow k r }
+    answer false r = record { kept = kept_fails b m s0 w o.kept k r; fresh = fails_fresh b w o.fresh k r; empty = fails_empty b w o.empty k r }
 
 if_due_follow : (b : Start) (w : World) → AllFollow b w → (k : ℕ) (stop : Option Bool) → AllFollow b (tidies_if_due b k stop w)
 if_due_follow b w f k stop = answer ((node_at b w k).up && is_due b (node_at b w k)) stop
@@ -112,7 +136,7 @@ module _ (b : Start) (m : Machine) (s0 : Spine) (fit : IsFit b m) (openings : Li
           let inside = up_inside b w place (and_parts n.up (nat_lt n.term term) e).0 in
           let v = own_event b m (suc place) (RaiseEvent term) (opening_of openings (suc place)).raise_stop w in
           let k : Holds b m s0 v = holds_own b m s0 fit w o.kept place inside (RaiseEvent term) (o.follow (suc place))
-          (raise_steps (suc place) n.base n.applied (core_of b m (suc place) n) term (record { same = refl; base = omega arith; commit = (o.kept.kept.nodes place inside).to_commit })) (opening_of openings (suc place)).raise_stop in
+          (raise_steps (suc place) n.base n.base n.applied (core_of b m (suc place) n) term (record { same = refl; base = omega arith; below = omega arith; commit = (o.kept.kept.nodes place inside).to_commit })) (opening_of openings (suc place)).raise_stop in
           record {
             kept = kept_if_due b m s0 v k (suc place) (opening_of openings (suc place)).tidy_stop;
             follow = if_due_follow b v (raise_follow w o.follow place (opening_of openings (suc place)).raise_stop) (suc place) (opening_of openings (suc place)).tidy_stop;
@@ -222,16 +246,16 @@ length_map : (f : Node → Node) (xs : List Node) → length (map f xs) ≡ leng
 length_map f [] = refl
 length_map f (x ∷ xs) = ap suc (length_map f xs)
 
-all_roles : (b : Start) (xs : List Node) (i : ℕ) → (get_or (map (refreshed b false) xs) i (nobody b)).role ≡ Follower
-all_roles b [] i = refl
-all_roles b (x ∷ xs) zero = refl
-all_roles b (x ∷ xs) (suc i) = all_roles b xs i
+all_fresh : (b : Start) (xs : List Node) (i : ℕ) → IsFresh (get_or (map (refreshed b false) xs) i (nobody b))
+all_fresh b [] i = (refl, refl)
+all_fresh b (x ∷ xs) zero = (refl, refl)
+all_fresh b (x ∷ xs) (suc i) = all_fresh b xs i
 
 -- every node stands still
 abbrev pub still : Start → World → World
 still b w = record w { nodes = map (refreshed b false) w.nodes; flight = []; cuts = []; hold = false; takes = []; fires = []; opened = map (log_of b) w.nodes }
 
-stands_still : (b : Start) (m : Machine) (s0 : Spine) (w : World) → Holds b m s0 w → Opens b m s0 (still b w)
+stands_still : (b : Start) (m : Machine) (s0 : Spine) (w : World) → Holds b m s0 w → Starting b m s0 (still b w)
 stands_still b m s0 w h = record {
   kept = record {
     kept = record {
@@ -247,25 +271,65 @@ stands_still b m s0 w h = record {
     count = length_map (refreshed b false) w.nodes ∙ h.count;
     took = All-nil (Took b h.kept.spine (still b w));
     differ = λ i j d li lj ei et. absurd (omega (arith, li));
+    longer = λ e. let x = h.longer e in record {
+      nodes = λ q lt. let l = length_map (refreshed b false) w.nodes in let inside : q < length w.nodes = omega (arith, l, lt) in
+          let y = x.nodes q inside in let fb = (h.kept.nodes q inside).from_base in
+          subst (λ (n : Node). n.applied ≤ w.placed) (sym (get_map (refreshed b false) w.nodes q (nobody b) inside)) (let r : (node_at b w (suc q)).base ≤ w.placed = omega (arith, y, fb) in r);
+      flight = All-nil (λ (x : Message). ChunkWithin w.placed x.body);
+    };
   };
-  follow = roles;
+  fresh = fresh;
+  empty = refl;
 }
   where
-    roles : (k : ℕ) → (node_at b (still b w) k).role ≡ Follower
-    roles zero = refl
-    roles (suc q) = all_roles b w.nodes q
+    fresh : (k : ℕ) → IsFresh (node_at b (still b w) k)
+    fresh zero = (refl, refl)
+    fresh (suc q) = all_fresh b w.nodes q
+
+-- a list of nodes has each of them, with others before and after it
+record Has (ks : List ℕ) (k : ℕ) : Type 0 where
+  before : List ℕ
+  after : List ℕ
+  is : ks ≡ before ++ k ∷ after
+
+ids_have : (n place : ℕ) → place < n → Has (ids n) (suc place)
+ids_have zero place lt = absurd (omega (arith, lt))
+ids_have (suc n) place lt = ⊎_elim
+    (λ (x : place < n). let y = ids_have n place x in record { before = y.before; after = y.after ++ suc n ∷ []; is = ap (λ (l : List ℕ). l ++ suc n ∷ []) y.is ∙ append_assoc y.before (suc place ∷ y.after) (suc n ∷ []) })
+    (λ (x : n ≤ place). record { before = ids n; after = []; is = ap (λ (k : ℕ). ids n ++ k ∷ []) (let z : suc n ≡ suc place = omega (arith, x, lt) in z) })
+    (cases_lt place n)
+
+-- where all of a list run, no base is above the greatest
+base_greatest : (b : Start) (v : World) (xs ys : List ℕ) (k : ℕ) → all_up b v (xs ++ k ∷ ys) ≡ true → (node_at b v k).base ≤ greatest_base b v (xs ++ k ∷ ys)
+base_greatest b v [] ys k e =
+    let u = (and_parts (node_at b v k).up (all_up b v ys) e).0 in
+    subst (λ (g : Bool). (node_at b v k).base ≤ max (cond g (node_at b v k).base 0) (greatest_base b v ys)) (sym u) (omega arith)
+base_greatest b v (x ∷ xs) ys k e =
+    let r = base_greatest b v xs ys k (and_parts (node_at b v x).up (all_up b v (xs ++ k ∷ ys)) e).1 in omega (arith, r)
 
 -- the history of an opening
-history_holds : (b : Start) (m : Machine) (s0 : Spine) (v : World) → Holds b m s0 v → (ks : List ℕ) (all : Bool)
-    → Holds b m s0 (record v { placed = greatest_base b v ks; history = front_at b v (greatest_base b v ks) ks; all_started = all })
-history_holds b m s0 v h ks all =
-    let u : World = record v { placed = greatest_base b v ks; history = front_at b v (greatest_base b v ks) ks; all_started = all } in
+history_holds : (b : Start) (m : Machine) (s0 : Spine) (v : World) → Starting b m s0 v
+    → Holds b m s0 (record v { placed = greatest_base b v (ids (nodes_of b)); history = front_at b v (greatest_base b v (ids (nodes_of b))) (ids (nodes_of b)); all_started = all_up b v (ids (nodes_of b)) })
+history_holds b m s0 v o =
+    let h = o.kept in
+    let ks = ids (nodes_of b) in
+    let u : World = record v { placed = greatest_base b v ks; history = front_at b v (greatest_base b v ks) ks; all_started = all_up b v ks } in
     record {
-      kept = history_opens b m v h.kept ks all;
+      kept = history_opens b m v h.kept ks (all_up b v ks);
       since = h.since;
       count = h.count;
       took = All-weaker (Took b h.kept.spine v) (Took b h.kept.spine u) (λ x t. record { led = t.led; within = t.within }) v.takes h.took;
       differ = h.differ;
+      longer = λ e. record {
+        nodes = λ place lt.
+            let c = h.count in
+            let y = ids_have (nodes_of b) place (omega (arith, lt, c)) in
+            let z = base_greatest b v y.before y.after (suc place) (ap (all_up b v) (sym y.is) ∙ e) in
+            let g = ap (greatest_base b v) y.is in
+            let f = (o.fresh (suc place)).1 in
+            (let r : (node_at b v (suc place)).applied ≤ greatest_base b v ks = omega (arith, z, g, f) in r);
+        flight = subst (λ (xs : List Message). All (λ (x : Message). ChunkWithin (greatest_base b v ks) x.body) xs) (sym o.empty) (All-nil (λ (x : Message). ChunkWithin (greatest_base b v ks) x.body));
+      };
     }
 
 -- the opening
@@ -273,8 +337,7 @@ pub kept_opens : (b : Start) (m : Machine) (s0 : Spine) → IsFit b m → (openi
 kept_opens b m s0 fit openings w h =
     let all = ids (nodes_of b) in
     let v = all_start b openings all (still b w) in
-    let o : Opens b m s0 v = all_starts b m s0 openings all (still b w) (stands_still b m s0 w h) in
+    let o : Starting b m s0 v = all_starts b m s0 openings all (still b w) (stands_still b m s0 w h) in
     let u : World = record v { placed = greatest_base b v all; history = front_at b v (greatest_base b v all) all; all_started = all_up b v all } in
-    let k : Holds b m s0 u = history_holds b m s0 v o.kept all (all_up b v all) in
-    let p : Opens b m s0 u = record { kept = k; follow = o.follow } in
+    let p : Opens b m s0 u = record { kept = history_holds b m s0 v o; follow = λ k. (o.fresh k).0 } in
     (all_raises b m s0 fit openings (greatest_term b v all) all u p).kept

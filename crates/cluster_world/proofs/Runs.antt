@@ -1,5 +1,5 @@
 -- Runs, and the facts.
-use Rattle.std.proofs.Common.{◌≡◌, ◌≢◌, ℕ, zero, suc, ◌-◌, ◌<◌, Bool, true, false, cond, ◌&&◌, ◌==◌, List, [], ◌∷◌, ◌++◌, length, take, drop, get_or, replicate, refl, sym, ap, ◌∙◌, subst, arith, inl, take-take}
+use Rattle.std.proofs.Common.{◌≡◌, ◌≢◌, ℕ, zero, suc, ◌-◌, ◌<◌, Bool, true, false, cond, ◌&&◌, ◌==◌, List, [], ◌∷◌, ◌++◌, length, take, drop, get_or, replicate, refl, sym, ap, ◌∙◌, subst, arith, ◌+◌, ◌≤◌, inl, ⊎_elim, take-take, take_all, length-take-le}
 use Rattle.std.proofs.lemmas.Bool.{and_parts}
 use Rattle.std.proofs.lemmas.List.Elements.{All-nil, All-drop}
 use Rattle.raft_types.specs.declared.entry.LogEntry.{LogEntry}
@@ -10,6 +10,9 @@ use Rattle.raft_spine.specs.Decided.{Decided}
 use Rattle.raft_spine.proofs.Sound.{Rooted, Sound}
 use Rattle.raft_spine.proofs.Run.{reached_sound}
 use Rattle.raft_spine.proofs.Grow.{grows_same, decided_front}
+use Rattle.raft_spine.proofs.Fronts.{front_fits}
+use Rattle.raft_types.specs.declared.message.Message.{Message}
+use Rattle.cluster_world.proofs.Steps.{ChunkWithin}
 use Rattle.raft_spine.proofs.Laws.{rooted_match, leader_has, one_history as one_line}
 use Rattle.raft_types.specs.Log.{LogParts, compacted}
 use Rattle.raft_claims.specs.Tied.{whole_log, StoreTied}
@@ -18,7 +21,7 @@ use Rattle.raft_claims.proofs.Lawful.{begins_tied}
 use Rattle.cluster_world.specs.World.{Machine, Node, World, nodes_of, nobody, fresh_node, last_of, node_at, begin_world}
 use Rattle.cluster_world.specs.Events.{Event, Open, StartNode, FailStart, StopNode, Timeout, Beat, Command, Fire, Deliver, Drop, Tidy, Cut, Mend, Hold, Flow, own_event, may_append, next_entry, starts, fails_to_start, mended, happens, run}
 use Rattle.raft_types.specs.declared.event.CoreEvent.TheVariants.{Command as CommandEvent, Fire as FireEvent}
-use Rattle.cluster_world.specs.Facts.{IsFit, Runs, NoTwoLead, WholeLogsMatch, OneHistory, LeadersHave, LeadsNow, LedOnce, WorldFacts, applied_of, committed_of}
+use Rattle.cluster_world.specs.Facts.{IsFit, Runs, NoTwoLead, WholeLogsMatch, OneHistory, LeadersHave, LeadsNow, LedOnce, HistoryIsLonger, WorldFacts, applied_of, committed_of}
 use Rattle.cluster_world.proofs.Keeping.{NodeKept, InFlight, Kept, up_inside}
 use Rattle.cluster_world.proofs.Happens.{kept_starts, kept_fails, kept_stops, kept_if_due, refit, kept_drops, kept_delivers, kept_timeout, kept_beat, kept_command, kept_fire}
 use Rattle.cluster_world.proofs.Holding.{Took, Holds}
@@ -61,14 +64,15 @@ module _ (b : Start) (m : Machine) (s0 : Spine) (fit : IsFit b m) where
           let v = own_event b m (suc place) (FireEvent entry) stop w in
           let n = node_at b w (suc place) in
           let k : Holds b m s0 v = kept_fire b m s0 fit w h place entry stop (and_parts (may_append b n) (n.applied == last_of b n) e).0 in
-          refit b m s0 v k v.flight k.kept.flight v.cuts v.hold (next_entry b n entry ∷ v.fires)
+          refit b m s0 v k v.flight k.kept.flight (λ x. x) v.cuts v.hold (next_entry b n entry ∷ v.fires)
   kept_happens w h (Deliver place again stop) = kept_delivers b m s0 fit w h place again stop (drop place w.flight) (All-drop (InFlight b m h.kept.spine w) place w.flight h.kept.flight)
+      (λ e. All-drop (λ (x : Message). ChunkWithin w.placed x.body) place w.flight (h.longer e).flight)
   kept_happens w h (Drop place) = kept_drops b m s0 w h place
   kept_happens w h (Tidy k stop) = kept_if_due b m s0 w h k stop
-  kept_happens w h (Cut j k) = refit b m s0 w h w.flight h.kept.flight ((j, k) ∷ w.cuts) w.hold w.fires
-  kept_happens w h (Mend j k) = refit b m s0 w h w.flight h.kept.flight (mended w.cuts j k) w.hold w.fires
-  kept_happens w h Hold = refit b m s0 w h w.flight h.kept.flight w.cuts true w.fires
-  kept_happens w h Flow = refit b m s0 w h w.flight h.kept.flight w.cuts false w.fires
+  kept_happens w h (Cut j k) = refit b m s0 w h w.flight h.kept.flight (λ x. x) ((j, k) ∷ w.cuts) w.hold w.fires
+  kept_happens w h (Mend j k) = refit b m s0 w h w.flight h.kept.flight (λ x. x) (mended w.cuts j k) w.hold w.fires
+  kept_happens w h Hold = refit b m s0 w h w.flight h.kept.flight (λ x. x) w.cuts true w.fires
+  kept_happens w h Flow = refit b m s0 w h w.flight h.kept.flight (λ x. x) w.cuts false w.fires
 
   pub kept_run : (w : World) → Holds b m s0 w → (es : List Event) → Holds b m s0 (run b m w es)
   kept_run w h [] = h
@@ -112,7 +116,7 @@ length_replicate (suc k) n = ap suc (length_replicate k n)
 
 -- what holds since this world
 since_now : (b : Start) (m : Machine) (s0 : Spine) (w : World) (h : Holds b m s0 w) → Holds b m h.kept.spine w
-since_now b m s0 w h = record { kept = h.kept; since = grows_same h.kept.spine; count = h.count; took = h.took; differ = h.differ }
+since_now b m s0 w h = record { kept = h.kept; since = grows_same h.kept.spine; count = h.count; took = h.took; differ = h.differ; longer = h.longer }
 
 run_both : (b : Start) (m : Machine) (w : World) (es es2 : List Event) → run b m w (es ++ es2) ≡ run b m (run b m w es) es2
 run_both b m w [] es2 = refl
@@ -126,6 +130,7 @@ module _ (b : Start) (m : Machine) (fit : IsFit b m) (count : ℕ) where
     count = length_replicate (nodes_of b) (fresh_node b false b.term b.vote b.log b.base count);
     took = All-nil (Took b (begin b) (begin_world b count));
     differ = λ i j d li lj ei et. absurd (omega (arith, li));
+    longer = λ e. absurd (let q : false ≡ true = e in cc);
   }
 
   pub holds_run : (es : List Event) → Holds b m (begin b) (run b m (begin_world b count) es)
@@ -145,6 +150,26 @@ module _ (b : Start) (m : Machine) (fit : IsFit b m) (count : ℕ) where
       let led = (a.leading x.role).leads in
       let nz : h.kept.spine.leader (node_at b w j).term ≢ 0 = λ z. a.is_node (sym led ∙ z) in
       sym led ∙ (sym (now.since.leader (node_at b w j).term nz) ∙ (ap now.kept.spine.leader e' ∙ (c.leading y'.role).leads))
+
+-- where every node started at the opening, what a running node has applied is a front of the history
+pub history_longer : (b : Start) (m : Machine) (s0 : Spine) (w : World) → Holds b m s0 w → OneHistory b w → HistoryIsLonger b w
+history_longer b m s0 w h one e k r = ⊎_elim
+    (λ (x : IsFront (applied_of b (node_at b w k)) w.history). x)
+    (λ (x : IsFront w.history (applied_of b (node_at b w k))).
+    let ok = running b m w h.kept k r in
+    let ta = ok.to_commit in let sh = ok.tied.short in let lo = ok.tied.based in let fb = ok.from_base in
+    let a = length-take-le ((node_at b w k).applied - b.base) (node_at b w k).whole (omega (arith, ta, sh)) in
+    let le = applied_placed k r in
+    let long : w.placed ≡ b.base + length w.history = ⊎_elim (λ (y : w.placed ≡ b.base + length w.history). y) (λ (y : w.placed < b.base). absurd (omega (arith, y, le, lo, fb))) h.kept.history.long in
+    let f = front_fits w.history (applied_of b (node_at b w k)) x in
+    let same : length (applied_of b (node_at b w k)) ≡ length w.history = omega (arith, f, a, le, long) in
+    let is : applied_of b (node_at b w k) ≡ w.history = sym (take_all (length w.history) (applied_of b (node_at b w k)) (omega (arith, same))) ∙ x in
+    take_all (length (applied_of b (node_at b w k))) w.history (omega (arith, same)) ∙ sym is)
+    (one.of_history k r)
+  where
+    applied_placed : (k : ℕ) → Runs b w k → (node_at b w k).applied ≤ w.placed
+    applied_placed zero r = absurd (let q : false ≡ true = r in cc)
+    applied_placed (suc place) r = (h.longer e).nodes place (up_inside b w place r)
 
 -- the facts of a world
 module _ (b : Start) (m : Machine) (w : World) (h : Kept b m w) where

@@ -1,11 +1,12 @@
 -- Every event of a world keeps what holds of it.
-use Rattle.std.proofs.Common.{◌≡◌, ℕ, zero, suc, ◌+◌, ◌-◌, ◌<◌, ◌≤◌, min, Bool, true, false, not, cond, ◌&&◌, ◌==◌, List, [], length, take, Option, Some, None, refl, sym, ap, ◌∙◌, subst, arith, ◌⊎◌, inl, inr, ⊎_elim, take_all, length-take-le}
+use Rattle.std.proofs.Common.{◌≡◌, ℕ, zero, suc, ◌+◌, ◌-◌, ◌<◌, ◌≤◌, min, max, nat_lt, nat_le, ◌++◌, drop, Bool, true, false, not, cond, ◌&&◌, ◌==◌, List, [], length, take, Option, Some, None, refl, sym, ap, ◌∙◌, subst, arith, ◌⊎◌, inl, inr, ⊎_elim, take_all, length-take-le}
 use Rattle.std.proofs.lemmas.Bool.{eqb-true, and_parts}
 use Rattle.raft_types.specs.declared.entry.LogEntry.{LogEntry}
 use Rattle.raft_types.specs.declared.limits.TheConstants.{MAX_CHUNK}
 use Rattle.raft_types.specs.declared.event.CoreEvent.{CoreEvent}
 use Rattle.raft_types.specs.declared.event.CoreEvent.TheVariants.{Timeout, Beat, Raise, Command, Fire, Heard}
 use Rattle.raft_types.specs.declared.message.Body.{Body}
+use Rattle.raft_types.specs.declared.message.Message.{Message}
 use Rattle.raft_types.specs.declared.message.Body.TheVariants.{Vote, VoteReply, Append, AppendReply, Chunk, ChunkReply}
 use Rattle.raft_types.specs.Log.{LogParts, compacted}
 use Rattle.raft_types.specs.Step.{on}
@@ -26,14 +27,47 @@ use Rattle.raft_claims.proofs.EventTurns.{event_turn}
 use Rattle.raft_claims.proofs.EventStops.{event_stop}
 use Rattle.raft_claims.proofs.Lawful.{compacts_tied}
 use Rattle.cluster_world.specs.World.{Machine, Held, Node, World, nodes_of, log_of, core_of, refreshed, node_at}
-use Rattle.cluster_world.specs.Node.{needs, with_chunk, arrived, told_of, tidied}
-use Rattle.cluster_world.specs.Events.{own_event, node_event, is_cut, arrives}
+use Rattle.cluster_world.specs.Node.{needs, with_chunk, arrived, told_of, applied_before, ended, tidied}
+use Rattle.cluster_world.specs.Events.{with_node, own_event, node_event, is_cut, arrives}
 use Rattle.cluster_world.specs.Facts.{IsFit}
-use Rattle.cluster_world.proofs.Steps.{Steps, heard_steps}
+use Rattle.cluster_world.proofs.Steps.{ChunkWithin, Steps, heard_steps}
 use Rattle.cluster_world.proofs.Roles.{Raised, leads_how}
 use Rattle.raft_types.specs.Core.{CoreParts}
-use Rattle.cluster_world.proofs.Keeping.{HeldOf, NodeKept, ChunkOf, InFlight, Kept, Onward, onward_same, up_inside, held_stays}
-use Rattle.cluster_world.proofs.NodeEvents.{kept_ended, kept_stopped}
+use Rattle.cluster_world.proofs.Keeping.{HeldOf, NodeKept, ChunkOf, InFlight, Kept, Within, Forward, forward_same, up_inside, held_stays}
+use Rattle.cluster_world.proofs.NodeEvents.{after_node, kept_ended, kept_stopped, within_ended, within_stopped}
+
+-- the index of a chunk; 0 for any other message
+abbrev chunk_index : Body → ℕ
+chunk_index (Vote t li lt) = 0
+chunk_index (VoteReply t r) = 0
+chunk_index (Append t pi pt es mc) = 0
+chunk_index (AppendReply t r i) = 0
+chunk_index (Chunk t i bt off total bytes) = i
+chunk_index (ChunkReply t i off) = 0
+
+within_index : (low : ℕ) (body : Body) → ChunkWithin (max low (chunk_index body)) body
+within_index low (Vote t li lt) = tt
+within_index low (VoteReply t r) = tt
+within_index low (Append t pi pt es mc) = tt
+within_index low (AppendReply t r i) = tt
+within_index low (Chunk t i bt off total bytes) = omega arith
+within_index low (ChunkReply t i off) = tt
+
+index_within : (p low : ℕ) → low ≤ p → (body : Body) → ChunkWithin p body → max low (chunk_index body) ≤ p
+index_within p low le (Vote t li lt) c = omega (arith, le)
+index_within p low le (VoteReply t r) c = omega (arith, le)
+index_within p low le (Append t pi pt es mc) c = omega (arith, le)
+index_within p low le (AppendReply t r i) c = omega (arith, le)
+index_within p low le (Chunk t i bt off total bytes) c = omega (arith, le, c)
+index_within p low le (ChunkReply t i off) c = omega (arith, le)
+
+-- an event leaves it as it was whether all started
+started_same : (b : Start) (w : World) (place : ℕ) (n n' : Node) (ms : List Message) → (after_node b (suc place) n n' ms w).all_started ≡ w.all_started
+started_same b w place n n' ms = answer (nat_le (applied_before n n'.base) w.placed && nat_lt w.placed n'.applied) (w.history ++ take (n'.applied - w.placed) (drop (w.placed - b.base) n'.whole))
+  where
+    answer : (g : Bool) (l : List LogEntry) → (cond g (record (with_node (suc place) n' w) { placed = n'.applied; history = l }) (with_node (suc place) n' w)).all_started ≡ w.all_started
+    answer true l = refl
+    answer false l = refl
 
 -- the opening's term is asked of followers
 raised_by : (b : Start) (m : Machine) (s : Spine) (c : CoreParts) (sender : List LogEntry) (event : CoreEvent) → Asked b m.len s c sender event → Raised c event
@@ -48,23 +82,28 @@ module _ (b : Start) (m : Machine) (fit : IsFit b m) where
   -- an event of a node, with the whole log of a sender
   pub kept_by : (w : World) → (h : Kept b m w) → (place : ℕ) → place < length w.nodes → (sender : List LogEntry) (held : Held) (event : CoreEvent)
       → Asked b m.len h.spine (core_of b m (suc place) (node_at b w (suc place))) sender event
-      → Steps (suc place) (node_at b w (suc place)).base (node_at b w (suc place)).applied (on (core_of b m (suc place) (node_at b w (suc place))) event)
-      → (held.count ≡ 0) ⊎ HeldOf b m.len h.spine held → (stop : Option ℕ) → Onward b m h.spine w (node_event b m (suc place) sender held event stop w)
-  kept_by w h place inside sender held event a st hk (Some j) =
+      → (high : ℕ) → (w.all_started ≡ true → Within b w → high ≤ w.placed) → Steps (suc place) (node_at b w (suc place)).base high (node_at b w (suc place)).applied (on (core_of b m (suc place) (node_at b w (suc place))) event)
+      → (held.count ≡ 0) ⊎ HeldOf b m.len h.spine held → (stop : Option ℕ) → Forward b m h.spine w (node_event b m (suc place) sender held event stop w)
+  kept_by w h place inside sender held event a high le st hk (Some j) =
       let n = node_at b w (suc place) in
-      kept_stopped b m w h place inside n refl sender event j (event_stop b m.len fit.sizes h.spine h.reached (core_of b m (suc place) n) n.whole (h.nodes place inside).tied fit.members sender event a j) st
-  kept_by w h place inside sender held event a st hk None =
+      record { onward = kept_stopped b m w h place inside n refl sender event high j (event_stop b m.len fit.sizes h.spine h.reached (core_of b m (suc place) n) n.whole (h.nodes place inside).tied fit.members sender event a j) st; started = refl; within = λ e x. within_stopped b m w h place inside n refl sender event high j st x (le e x) }
+  kept_by w h place inside sender held event a high le st hk None =
       let n = node_at b w (suc place) in
       let q = event_turn b m.len fit.sizes h.spine h.reached (core_of b m (suc place) n) n.whole (h.nodes place inside).tied fit.members sender event a in
-      kept_ended b m w h place inside n refl sender event held q st (leads_how (core_of b m (suc place) n) event (raised_by b m h.spine (core_of b m (suc place) n) sender event a))
-      (held_stays b m.len h.spine (moved_all q.moves h.spine) (moves_grow b h.reached.start.low h.spine (reached_sound b h.spine h.reached) q.moves q.can) held hk)
+      record {
+        onward = kept_ended b m w h place inside n refl sender event high held q st (leads_how (core_of b m (suc place) n) event (raised_by b m h.spine (core_of b m (suc place) n) sender event a))
+            (held_stays b m.len h.spine (moved_all q.moves h.spine) (moves_grow b h.reached.start.low h.spine (reached_sound b h.spine h.reached) q.moves q.can) held hk);
+        started = started_same b w place n (ended b m sender n held (on (core_of b m (suc place) n) event)) (on (core_of b m (suc place) n) event).messages;
+        within = λ e x. within_ended b m w h place inside n refl sender event high held st x (le e x);
+      }
 
   -- an event of a node's own
   pub kept_own : (w : World) → (h : Kept b m w) → (place : ℕ) → place < length w.nodes → (event : CoreEvent)
       → Asked b m.len h.spine (core_of b m (suc place) (node_at b w (suc place))) [] event
-      → Steps (suc place) (node_at b w (suc place)).base (node_at b w (suc place)).applied (on (core_of b m (suc place) (node_at b w (suc place))) event)
-      → (stop : Option ℕ) → Onward b m h.spine w (own_event b m (suc place) event stop w)
-  kept_own w h place inside event a st stop = kept_by w h place inside [] (node_at b w (suc place)).held event a st (h.nodes place inside).holds stop
+      → Steps (suc place) (node_at b w (suc place)).base (node_at b w (suc place)).base (node_at b w (suc place)).applied (on (core_of b m (suc place) (node_at b w (suc place))) event)
+      → (stop : Option ℕ) → Forward b m h.spine w (own_event b m (suc place) event stop w)
+  kept_own w h place inside event a st stop = kept_by w h place inside [] (node_at b w (suc place)).held event a (node_at b w (suc place)).base
+      (λ e x. let y = x.nodes place inside in let fb = (h.nodes place inside).from_base in (let r : (node_at b w (suc place)).base ≤ w.placed = omega (arith, y, fb) in r)) st (h.nodes place inside).holds stop
 
 -- a snapshot of which these bytes are held is the chunk's, so that they are no more than it has
 module _ (b : Start) (len : List LogEntry → ℕ) (s : Spine) (sound : Sound b s) (h : Held) (ok : (h.count ≡ 0) ⊎ HeldOf b len s h) (from t i bt off total : ℕ) (c : ChunkClaim b len s from t i bt total) where
@@ -135,20 +174,20 @@ module _ (b : Start) (m : Machine) (fit : IsFit b m) (w : World) (h : Kept b m w
   asked_of k n ok from to sender (ChunkReply t i off) c x = tt
 
   -- a message arrives
-  pub kept_arrives : (from to : ℕ) (body : Body) → InFlight b m h.spine w (record { from = from; to = to; body = body }) → (stop : Option ℕ)
-      → Onward b m h.spine w (arrives b m (record { from = from; to = to; body = body }) stop w)
-  kept_arrives from zero body f stop = absurd (let z = f.to_node in omega (arith, z))
-  kept_arrives from (suc place) body f stop = answer ((node_at b w (suc place)).up && not (is_cut w.cuts from (suc place))) refl
+  pub kept_arrives : (from to : ℕ) (body : Body) → InFlight b m h.spine w (record { from = from; to = to; body = body }) → (w.all_started ≡ true → ChunkWithin w.placed body) → (stop : Option ℕ)
+      → Forward b m h.spine w (arrives b m (record { from = from; to = to; body = body }) stop w)
+  kept_arrives from zero body f cw stop = absurd (let z = f.to_node in omega (arith, z))
+  kept_arrives from (suc place) body f cw stop = answer ((node_at b w (suc place)).up && not (is_cut w.cuts from (suc place))) refl
     where
       n : Node
       n = node_at b w (suc place)
 
       answer : (g : Bool) → ((node_at b w (suc place)).up && not (is_cut w.cuts from (suc place))) ≡ g
-          → Onward b m h.spine w (cond g (node_event b m (suc place) (node_at b w from).whole (arrived (node_at b w (suc place)) body)
+          → Forward b m h.spine w (cond g (node_event b m (suc place) (node_at b w from).whole (arrived (node_at b w (suc place)) body)
           (Heard (record { from = from; to = suc place; body = body }) (node_at b w (suc place)).applied (told_of (node_at b w (suc place)) body)) stop w) w)
-      answer false e = onward_same b m w h
-      answer true e =
-          let up = (and_parts (node_at b w (suc place)).up (not (is_cut w.cuts from (suc place))) e).0 in
+      answer false e = forward_same b m w h
+      answer true e0 =
+          let up = (and_parts (node_at b w (suc place)).up (not (is_cut w.cuts from (suc place))) e0).0 in
           let inside = up_inside b w place up in
           let ok = h.nodes place inside in
           let fn = f.from_node in
@@ -163,8 +202,10 @@ module _ (b : Start) (m : Machine) (fit : IsFit b m) (w : World) (h : Kept b m w
             to_commit = ok.to_commit;
             of_sender = asked_of (suc place) (node_at b w (suc place)) ok from (suc place) (node_at b w from) body f.claim f.chunk;
           })
-          (heard_steps (suc place) (node_at b w (suc place)).base (node_at b w (suc place)).applied (core_of b m (suc place) (node_at b w (suc place))) (record { from = from; to = suc place; body = body })
-          (told_of (node_at b w (suc place)) body) fn f.other ok.from_base (record { same = refl; base = omega arith; commit = ok.to_commit }))
+          (max (node_at b w (suc place)).base (chunk_index body))
+          (λ e x. let y = x.nodes place inside in let fb = ok.from_base in index_within w.placed (node_at b w (suc place)).base (omega (arith, y, fb)) body (cw e))
+          (heard_steps (suc place) (node_at b w (suc place)).base (max (node_at b w (suc place)).base (chunk_index body)) (node_at b w (suc place)).applied (core_of b m (suc place) (node_at b w (suc place))) (record { from = from; to = suc place; body = body })
+          (told_of (node_at b w (suc place)) body) fn f.other ok.from_base (within_index (node_at b w (suc place)).base body) (record { same = refl; base = omega arith; below = omega arith; commit = ok.to_commit }))
           (arrived_holds (suc place) (node_at b w (suc place)) ok from (suc place) body f.claim) stop
 
 -- a node on its store, just started or standing still

@@ -68,6 +68,10 @@ pub record OneHistory (b : Start) (w : World) : Type 0 where
   pub of_history : (k : ℕ) → Runs b w k → IsOneLine (applied_of b (node_at b w k)) w.history
   pub of_nodes : (j k : ℕ) → Runs b w j → Runs b w k → IsOneLine (applied_of b (node_at b w j)) (applied_of b (node_at b w k))
 
+-- where every node started at the opening, the history is no shorter: what a running node has applied is a front of it
+abbrev pub HistoryIsLonger : Start → World → Type 0
+HistoryIsLonger b w = w.all_started ≡ true → (k : ℕ) → Runs b w k → IsFront (applied_of b (node_at b w k)) w.history
+
 -- who leads has all that running nodes of no later term know to be committed
 abbrev pub LeadersHave : Start → World → Type 0
 LeadersHave b w =
