@@ -12,6 +12,8 @@ use Rattle.khepri_types.specs.Tree.{Tree, stands}
 use Rattle.khepri_types.specs.Views.{as_seen, node_of, seen_of}
 use Rattle.khepri_types.proofs.Growing.{get_some}
 use Rattle.nested_nodes.specs.Nests.{IsNest, IsSub, children}
+use Rattle.nested_nodes.specs.Next.{IsNext}
+use Rattle.tree_overlay.specs.Over.{HasChild}
 use Rattle.nested_nodes.proofs.Named.{Rows, sub-on}
 use Rattle.tree_overlay.proofs.Applying.{get-rows, no_child, with_nil}
 use Rattle.tree_overlay.proofs.Counting.{kids-rows}
@@ -126,3 +128,11 @@ seen-stands T p (Some v) seen = elim (get T p) as (λ o. get T p ≡ o → true 
 
 pub node_same : {x y : Node} → Some x ≡ Some y → x ≡ y
 node_same e = cc
+
+-- ---- children
+
+-- the child that comes next below a node, as the tree has it
+pub child-next : (ps rs : Rows Node) (p : List NameText) (after o : Option NameText) → IsNest name_cmp ps → IsSub p ps rs → IsNext name_cmp (λ n. IsTrue (is_some (find path_cmp (n ∷ []) rs))) after o → IsNext name_cmp (HasChild (from_sorted {R = path_cmp} ps) p) after o
+child-next ps rs p after o nest sub next =
+    subst (λ (f : NameText → Bool). IsNext name_cmp (λ n. IsTrue (f n)) after o)
+    (λ i n. (ap is_some (sub.finds (n ∷ []) ∙ sym (get-rows ps (p ++ n ∷ []) nest))) i) next

@@ -1,14 +1,15 @@
 // The tree.
 ghost use Rattle.std.specs.Prelude.{◌≡◌, OnOk, IsTrue, [], Some, IfSome, not, ◌&&◌, ◌++◌, ◌∷◌};
 ghost use Rattle.std.specs.Option.{option_copied};
-ghost use Rattle.std.specs.FinMap.{get, len};
+ghost use Rattle.std.specs.FinMap.{from_sorted, get, len};
 ghost use Rattle.khepri_terms.specs.Lengths.{capped};
-ghost use Rattle.khepri_terms.specs.Order.{name_cmp};
+ghost use Rattle.khepri_terms.specs.Order.{name_cmp, path_cmp};
 ghost use Rattle.khepri_types.specs.Conditions.{seen_at};
 ghost use Rattle.khepri_types.specs.Sizes.{bytes, kids};
 ghost use Rattle.khepri_types.specs.Tree.{IsTree, opening_tree, stands};
 ghost use Rattle.khepri_types.specs.Views.{seen_of, node_of};
 ghost use Rattle.nested_nodes.specs.Marks.{is_gone};
+ghost use Rattle.nested_nodes.specs.Nests.{IsNest};
 ghost use Rattle.nested_nodes.specs.Next.{IsNext};
 ghost use Rattle.tree_overlay.specs.Over.{HasChild, IsShallow};
 
@@ -84,6 +85,15 @@ impl Tree {
         self.bytes
     }
 
+    /// The root with all below it, for walks that go down.
+    pub fn root(&self) -> &Nest
+        ensures nest { IsNest name_cmp result.now }
+        ensures tree { from_sorted {R = path_cmp} result.now ≡ self.now }
+        ensures shallow { IsShallow self.now }
+    {
+        &self.root
+    }
+
     /// The allocator of the nodes.
     pub fn alloc(&self) -> Global {
         self.alloc
@@ -112,7 +122,10 @@ impl Tree {
     {
         match self.root.seek(path.names()) {
             None => None,
-            Some(nest) => nest.next_kid(after),
+            Some(nest) => match nest.next_kid(after) {
+                Some((name, _)) => Some(name),
+                None => None,
+            },
         }
     }
 
