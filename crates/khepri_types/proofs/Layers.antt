@@ -132,7 +132,7 @@ pub record Were (n left : ℕ) (text : List ℕ) (x : List Condition × ℕ × L
   pub all : AllByRecursion (IsNested n) x.0
   pub took : sum (map size x.0) + x.1 ≡ left
 
-abbrev sign : Bool → ℕ
+abbrev pub sign : Bool → ℕ
 sign last = cond last 41 44
 
 end_takes : (text : List ℕ) (x : Bool × List ℕ) → list_end_at text ≡ Some x → text ≡ sign x.0 ∷ x.1

@@ -17,7 +17,7 @@ use Rattle.khepri_types.specs.Globs.{glob_text}
 use Rattle.khepri_types.specs.ConditionTexts.{joined, asked_text, number_text, layer_text, condition_text, layer_size, size, IsLayer, IsNested}
 use Rattle.khepri_types.specs.ReadingConditions.{after_byte, Reading, name_asked, is_asked, field_asked, number_asked, comparing, list_end_at, before, uniting, asking_at, atom_at, not_asked, some_asked, list_asked, layer_at, nested_at}
 use Rattle.khepri_types.proofs.Asking.{close_again, name_asked_again, is_asked_again, field_asked_again, number_asked_again}
-use Rattle.khepri_types.proofs.Layers.{words, behind_is, joined_one, joined_more}
+use Rattle.khepri_types.proofs.Layers.{sign, words, behind_is, joined_one, joined_more}
 
 -- a condition counts itself
 layer_counts : (l : Condition-F Condition) → 1 ≤ size (roll-Condition l)
@@ -48,9 +48,6 @@ abbrev pub Again : ℕ → Type 0
 Again n = (x : Condition) (left : ℕ) (rest : List ℕ) → IsNested n x → size x ≤ left → nested_at n left (condition_text x ++ rest) ≡ Some (x, left - size x, rest)
 
 -- ---- lists
-
-abbrev sign : Bool → ℕ
-sign last = cond last 41 44
 
 end_again : (last : Bool) (rest : List ℕ) → list_end_at (sign last ∷ rest) ≡ Some (last, rest)
 unfolding list_end_at

@@ -43,10 +43,3 @@ pub mod LayersAgain
 pub mod PatternSpelling
 mod Commas
 pub mod PlaceOrder
-pub mod ValueTyping
-pub mod GivenValues
-pub mod ItemLaws
-pub mod ScriptWordLaws
-pub mod LeafLaws
-pub mod ExprLaws
-pub mod ScriptSpelling

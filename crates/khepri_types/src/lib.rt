@@ -21,7 +21,6 @@ mod reply;
 mod row;
 mod script;
 mod script_copy;
-pub mod script_laws;
 mod script_tree;
 mod script_words;
 pub mod settling_laws;

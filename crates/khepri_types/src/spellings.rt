@@ -1,4 +1,4 @@
-//! The laws of the texts of conditions, patterns, scripts, commands, replies and output lines, both ways: what is spelled is read again,
+//! The laws of the texts of conditions, patterns, commands, replies and output lines, both ways: what is spelled is read again,
 //! and what is read was spelled.
 ghost use Rattle.std.specs.Prelude.{◌≡◌, ◌↔◌, ℕ, List, ◌++◌, Some};
 ghost use Rattle.khepri_types.specs.declared.command.Command.{Command};
@@ -6,14 +6,11 @@ ghost use Rattle.khepri_types.specs.declared.condition.Condition.{Condition};
 ghost use Rattle.khepri_types.specs.declared.out.OutLine.{OutLine};
 ghost use Rattle.khepri_types.specs.declared.pattern.PatternPart.{PatternPart};
 ghost use Rattle.khepri_types.specs.declared.reply.Reply.{Reply};
-ghost use Rattle.khepri_types.specs.declared.script.Statement.{Statement};
 ghost use Rattle.khepri_types.specs.ConditionTexts.{condition_text, IsCondition};
 ghost use Rattle.khepri_types.specs.PatternTexts.{pattern_text, IsPattern, EndsPattern};
 ghost use Rattle.khepri_types.specs.Reading.{spelled_command};
 ghost use Rattle.khepri_types.specs.ReadingConditions.{condition_at, pattern_at};
 ghost use Rattle.khepri_types.specs.ReadingOut.{spelled_reply, out_at};
-ghost use Rattle.khepri_types.specs.ReadingScripts.{script_at};
-ghost use Rattle.khepri_types.specs.ScriptTexts.{script_text, IsScript};
 ghost use Rattle.khepri_types.specs.Spelled.{IsCommand, IsReply, HasSpelling};
 ghost use Rattle.khepri_types.specs.Texts.{command_text, reply_text, out_text};
 
@@ -27,12 +24,6 @@ pub fn condition_spelling()
 pub fn pattern_spelling()
     ensures again { (parts : List PatternPart) (rest : List ℕ) → IsPattern parts → EndsPattern rest → pattern_at (pattern_text parts ++ rest) ≡ Some (parts, rest) }
     ensures takes { (text : List ℕ) (parts : List PatternPart) (rest : List ℕ) → pattern_at text ≡ Some (parts, rest) → (text ≡ pattern_text parts ++ rest) × IsPattern parts }
-{}
-
-/// A script is read again from its text, whatever follows it, and whatever is read as a script is spelled so.
-pub fn script_spelling()
-    ensures again { (s : List Statement) (rest : List ℕ) → IsScript s → script_at (script_text s ++ rest) ≡ Some (s, rest) }
-    ensures takes { (text : List ℕ) (s : List Statement) (rest : List ℕ) → script_at text ≡ Some (s, rest) → (text ≡ script_text s ++ rest) × IsScript s }
 {}
 
 /// A command is read exactly where it is a command's spelling.

@@ -16,7 +16,7 @@ use Rattle.khepri_types.specs.Expressions.{value_of}
 use Rattle.khepri_types.specs.Tree.{Tree}
 use Rattle.khepri_types.specs.Typing.{is_int, is_text, is_path, is_rec, is_bool, register_type, gives, takes, layer_type, type_of, layer_typed, typed}
 use Rattle.khepri_types.specs.ValueTypes.{Suits, Gives, IsGiven, IsGivenTo}
-use Rattle.khepri_types.proofs.ValueTyping.{suits}
+use Rattle.script_laws.proofs.ValueTyping.{suits}
 
 given-fits : (fits : Bool) (s t : ValueType) → gives fits s ≡ Some t → fits ≡ true
 given-fits true s t e = refl
