@@ -12,7 +12,7 @@ use crate::outcome::Outcome;
 use keep_while::{first_unmet, settle};
 use khepri_terms::Path;
 use khepri_types::limits::{MAX_TREE_BYTES, MAX_TREE_NODES};
-use khepri_types::{Reply, Watching};
+use khepri_types::{Reply, Watches, Watching};
 use std::alloc::AllocError;
 use std::sync::ledger::Ledger;
 use step_count::Steps;
@@ -30,8 +30,11 @@ pub(crate) fn give_watches(
 {
     match said {
         Watching::Stay => Ok(()),
-        Watching::Free => draft.set_watches(path, &[]),
-        Watching::While(watches) => draft.set_watches(path, watches.as_slice()),
+        Watching::Free => {
+            let none = Watches::none(draft.alloc());
+            draft.set_watches(path, &none)
+        }
+        Watching::While(watches) => draft.set_watches(path, watches),
     }
 }
 

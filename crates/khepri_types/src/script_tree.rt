@@ -14,7 +14,7 @@ ghost use Rattle.khepri_types.specs.Scenes.{Scene, Rests, with_payload, without,
 use crate::node::Payload;
 use crate::pattern::Pattern;
 use crate::view::NodeView;
-use crate::watch::Watch;
+use crate::watch::Watches;
 use khepri_terms::Path;
 use std::alloc::AllocError;
 
@@ -55,7 +55,7 @@ pub trait ScriptTree: Drop {
         ensures scene { OnOk result (scene self.new ≡ without (scene self.old) path.now) };
 
     /// Gives a node these watches in place of its own, which writes the path where there are any.
-    fn set_watches(&mut self, path: &Path, watches: &[Watch]) -> Result<(), AllocError>
+    fn set_watches(&mut self, path: &Path, watches: &Watches) -> Result<(), AllocError>
         requires stands { IsTrue (stands (scene self.old).tree path.now) }
         ensures over { over self.new ≡ over self.old }
         ensures scene { OnOk result (scene self.new ≡ with_watches (scene self.old) path.now watches.now) };

@@ -1,7 +1,9 @@
 // What a node watches.
-ghost use Rattle.std.specs.Prelude.{◌≡◌, [], length, IfOk};
+ghost use Rattle.std.specs.Prelude.{◌≡◌, ◌↔◌, ◌≤◌, [], length, IfOk, IfSome, IsTrue, is_some};
+ghost use Rattle.khepri_types.specs.declared.limits.TheConstants.{MAX_WATCHES};
 
 use crate::condition::Condition;
+use crate::limits::MAX_WATCHES;
 use khepri_terms::Path;
 use std::alloc::{AllocError, Global};
 use std::marker::Model;
@@ -25,15 +27,16 @@ impl Watch {
     }
 }
 
-/// The watches of a node, in the order in which they were given.
+/// The watches of a node, in the order in which they were given: at most 16.
 #[derive(Drop)]
 pub struct Watches {
     items: Vec<Watch>,
 }
 
 impl Model for Watches {
-    ghost use Rattle.std.specs.Prelude.{List};
+    ghost use Rattle.std.specs.Prelude.{◌≤◌, List, length};
     ghost use Rattle.std.specs.Coded.{codes};
+    ghost use Rattle.khepri_types.specs.declared.limits.TheConstants.{MAX_WATCHES};
     ghost use Rattle.khepri_types.specs.declared.watch.Watch.{Watch};
     ghost use Rattle.khepri_types.specs.contracts.condition.Condition as condition;
 
@@ -42,6 +45,8 @@ impl Model for Watches {
     ghost coded = { Prim.hlevel (codes, condition.the_row.coded) };
 
     ghost view = { λ w. w.items.items };
+
+    ghost invariant = { λ w. length w.items.items ≤ MAX_WATCHES };
 }
 
 impl Watches {
@@ -53,14 +58,20 @@ impl Watches {
         }
     }
 
-    pub fn from_vec(items: Vec<Watch>) -> Watches
-        ensures { result ≡ items.items }
+    /// These watches, unless they are more than a node may have.
+    pub fn from_vec(items: Vec<Watch>) -> Option<Watches>
+        ensures value { IfSome result (λ w. w ≡ items.items) }
+        ensures few { IsTrue (is_some result) ↔ (length items.items ≤ MAX_WATCHES) }
     {
-        Watches { items }
+        if items.len() > MAX_WATCHES {
+            return None;
+        }
+        Some(Watches { items })
     }
 
     pub fn as_slice(&self) -> &[Watch]
-        ensures { result.now ≡ self.now }
+        ensures value { result.now ≡ self.now }
+        ensures few { length self.now ≤ MAX_WATCHES }
     {
         self.items.as_slice()
     }

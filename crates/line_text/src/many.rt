@@ -1,5 +1,5 @@
 // Items one after another.
-ghost use Rattle.std.specs.Prelude.{◌≡◌, ℕ, List, Option, Some, None, IfOk, Err};
+ghost use Rattle.std.specs.Prelude.{◌≡◌, ◌≤◌, ℕ, List, Option, Some, None, length, IfOk, Err};
 ghost use Rattle.khepri_terms.specs.Many.{many};
 
 use khepri_terms::TextFault;
@@ -22,7 +22,8 @@ pub(crate) fn read_many<T: Item>(
     text: &[u8],
     most: usize,
 ) -> Result<(Vec<T>, &[u8]), AllocError>
-    ensures { IfOk result (λ x. many T.item_at most text.now ≡ (x.0.items, x.1.now)) }
+    ensures value { IfOk result (λ x. many T.item_at most text.now ≡ (x.0.items, x.1.now)) }
+    ensures few { IfOk result (λ x. length x.0.items ≤ most) }
 {
     let mut items = Vec::new(alloc);
     let mut rest = text;

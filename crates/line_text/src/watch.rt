@@ -92,7 +92,10 @@ fn read_whole_watches(alloc: Global, text: &[u8]) -> Result<Watching, TextFault>
         return Err(TextFault::Bad);
     }
     match rest {
-        [] => Ok(Watching::While(Watches::from_vec(watches))),
+        [] => match Watches::from_vec(watches) {
+            Some(watches) => Ok(Watching::While(watches)),
+            None => unreachable!(),
+        },
         [_, ..] => Err(TextFault::Bad),
     }
 }

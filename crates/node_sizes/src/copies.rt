@@ -1,5 +1,6 @@
 // Nodes made from others, with memory of their own.
-ghost use Rattle.std.specs.Prelude.{◌≡◌, IfOk};
+ghost use Rattle.std.specs.Prelude.{◌≡◌, ◌≤◌, length, IfOk};
+ghost use Rattle.khepri_types.specs.declared.limits.TheConstants.{MAX_WATCHES};
 ghost use Rattle.khepri_types.specs.Tree.{fresh, raised, raised_children, written};
 ghost use Rattle.khepri_types.specs.Views.{node_of};
 
@@ -15,14 +16,18 @@ fn copy_watch(alloc: Global, watch: &Watch) -> Result<Watch, AllocError>
     })
 }
 
-pub fn copy_watches(alloc: Global, watches: &[Watch]) -> Result<Watches, AllocError>
+fn copy_watches(alloc: Global, watches: &[Watch]) -> Result<Watches, AllocError>
+    requires few { length watches.now ≤ MAX_WATCHES }
     ensures { IfOk result (λ w. w ≡ watches.now) }
 {
     let mut all = Vec::new(alloc);
     for watch in watches {
         all.push(copy_watch(alloc, watch)?)?;
     }
-    Ok(Watches::from_vec(all))
+    match Watches::from_vec(all) {
+        Some(watches) => Ok(watches),
+        None => unreachable!(),
+    }
 }
 
 // A node of these parts.
@@ -33,6 +38,7 @@ fn copy_node(
     cv: u64,
     watches: &[Watch],
 ) -> Result<Node, AllocError>
+    requires few { length watches.now ≤ MAX_WATCHES }
     ensures { IfOk result (λ n. n ≡ record { payload = payload.now; pv = pv; cv = cv; watches = watches.now }) }
 {
     Ok(Node {
@@ -77,6 +83,7 @@ pub fn part_node(alloc: Global, part: &NodePart) -> Result<Node, AllocError>
 
 /// The node that is shown, once another payload is set.
 pub fn written_node(alloc: Global, node: &NodeView, payload: &Payload) -> Result<Node, AllocError>
+    requires few { length node.now.watches.now ≤ MAX_WATCHES }
     ensures { IfOk result (λ n. n ≡ written (node_of node.now) payload.now) }
 {
     let pv = if payload.is_same(node.payload) {
@@ -89,14 +96,15 @@ pub fn written_node(alloc: Global, node: &NodeView, payload: &Payload) -> Result
 
 /// The node that is shown, once a child came or went.
 pub fn raised_node(alloc: Global, node: &NodeView) -> Result<Node, AllocError>
+    requires few { length node.now.watches.now ≤ MAX_WATCHES }
     ensures { IfOk result (λ n. n ≡ raised_children (node_of node.now)) }
 {
     copy_node(alloc, node.payload, node.pv, raise(node.cv), node.watches)
 }
 
 /// The node that is shown, with these watches in place of its own.
-pub fn watched_node(alloc: Global, node: &NodeView, watches: &[Watch]) -> Result<Node, AllocError>
+pub fn watched_node(alloc: Global, node: &NodeView, watches: &Watches) -> Result<Node, AllocError>
     ensures { IfOk result (λ n. n ≡ record (node_of node.now) { watches = watches.now }) }
 {
-    copy_node(alloc, node.payload, node.pv, node.cv, watches)
+    copy_node(alloc, node.payload, node.pv, node.cv, watches.as_slice())
 }

@@ -6,6 +6,6 @@ mod copies;
 mod sizes;
 mod views;
 
-pub use copies::{copy_watches, fresh_node, part_node, raised_node, watched_node, written_node};
+pub use copies::{fresh_node, part_node, raised_node, watched_node, written_node};
 pub use sizes::{grown, node_len};
 pub use views::shown;

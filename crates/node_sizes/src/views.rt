@@ -1,6 +1,7 @@
 // Nodes as conditions see them.
-ghost use Rattle.std.specs.Prelude.{◌≡◌};
+ghost use Rattle.std.specs.Prelude.{◌≡◌, ◌≤◌, length};
 ghost use Rattle.std.specs.Option.{option_copied};
+ghost use Rattle.khepri_types.specs.declared.limits.TheConstants.{MAX_WATCHES};
 ghost use Rattle.khepri_types.specs.Views.{as_seen, node_of};
 
 use khepri_terms::Name;
@@ -10,6 +11,7 @@ use khepri_types::{Node, NodeView};
 pub fn shown<'b>(name: Option<&'b Name>, node: &'b Node, kids: u64) -> NodeView<'b>
     ensures seen { as_seen result ≡ record { name = option_copied name.entry; payload = node.now.payload; pv = node.now.pv; cv = node.now.cv; kids = kids } }
     ensures node { node_of result ≡ node.now }
+    ensures few { length result.watches.now ≤ MAX_WATCHES }
 {
     NodeView {
         name,

@@ -5,7 +5,7 @@ ghost use Rattle.std.specs.Ordering.{is_eq};
 ghost use Rattle.std.specs.FinMap.{get, len};
 ghost use Rattle.khepri_terms.specs.Terms.{NameText};
 ghost use Rattle.khepri_terms.specs.Order.{name_cmp, path_cmp};
-ghost use Rattle.khepri_types.specs.declared.limits.TheConstants.{MAX_PATH_NAMES};
+ghost use Rattle.khepri_types.specs.declared.limits.TheConstants.{MAX_PATH_NAMES, MAX_WATCHES};
 ghost use Rattle.khepri_terms.specs.Lengths.{capped};
 ghost use Rattle.khepri_types.specs.Conditions.{seen_at};
 ghost use Rattle.khepri_types.specs.Drop.{drop};
@@ -20,7 +20,7 @@ ghost use Rattle.tree_nodes.specs.Drafts.{is_touched, IsCovered, IsRising, IsSha
 
 use crate::tree::Tree;
 use khepri_terms::{Name, Path};
-use khepri_types::{NodeView, Payload, Watch};
+use khepri_types::{NodeView, Payload, Watches};
 use std::alloc::{AllocError, Global};
 use std::marker::Model;
 use std::sync::ledger::Ledger;
@@ -96,6 +96,7 @@ impl<'a> Draft<'a> {
     pub fn node<L: Ledger>(&self, path: &Path, steps: &mut Steps<L>) -> Option<NodeView>
         ensures node { seen_of result ≡ seen_at self.now.tree path.now }
         ensures watches { IfSome result (λ v. get self.now.tree path.now ≡ Some (node_of v)) }
+        ensures few { IfSome result (λ v. length v.watches.now ≤ MAX_WATCHES) }
         ensures steps { steps.new ≡ steps.old + 1 }
     {
         steps.tick();
@@ -178,7 +179,7 @@ impl<'a> Draft<'a> {
     }
 
     /// Gives the node at the path these watches in place of its own.
-    pub fn set_watches(&mut self, path: &Path, watches: &[Watch]) -> Result<(), AllocError>
+    pub fn set_watches(&mut self, path: &Path, watches: &Watches) -> Result<(), AllocError>
         requires stands { IsTrue (stands self.old.tree path.now) }
         ensures base { self.new.base ≡ self.old.base }
         ensures tree { OnOk result (self.new.tree ≡ given_watches self.old.tree path.now watches.now (get self.old.tree path.now)) }

@@ -1,9 +1,10 @@
 // The tree.
-ghost use Rattle.std.specs.Prelude.{◌≡◌, ◌+◌, IfOk, OnOk, IfSome, IsTrue, [], length, map, Some};
+ghost use Rattle.std.specs.Prelude.{◌≡◌, ◌+◌, ◌≤◌, IfOk, OnOk, IfSome, IsTrue, [], length, map, Some};
 ghost use Rattle.std.specs.Option.{option_copied};
 ghost use Rattle.std.specs.FinMap.{get, is_sorted, len};
 ghost use Rattle.khepri_terms.specs.Order.{name_cmp, path_cmp};
 ghost use Rattle.khepri_terms.specs.Lengths.{capped};
+ghost use Rattle.khepri_types.specs.declared.limits.TheConstants.{MAX_WATCHES};
 ghost use Rattle.khepri_types.specs.Conditions.{seen_at};
 ghost use Rattle.khepri_types.specs.Sizes.{bytes};
 ghost use Rattle.khepri_types.specs.Tree.{IsTree, opening_tree};
@@ -84,6 +85,7 @@ impl Tree {
     pub fn node<L: Ledger>(&self, path: &Path, steps: &mut Steps<L>) -> Option<NodeView>
         ensures node { seen_of result ≡ seen_at self.now path.now }
         ensures watches { IfSome result (λ v. get self.now path.now ≡ Some (node_of v)) }
+        ensures few { IfSome result (λ v. length v.watches.now ≤ MAX_WATCHES) }
         ensures steps { steps.new ≡ steps.old + 1 }
     {
         steps.tick();

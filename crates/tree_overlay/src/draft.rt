@@ -6,7 +6,7 @@ ghost use Rattle.std.specs.FinMap.{get, len, insert, remove};
 ghost use Rattle.khepri_terms.specs.Lengths.{capped};
 ghost use Rattle.khepri_terms.specs.Terms.{NameText};
 ghost use Rattle.khepri_terms.specs.Order.{name_cmp, path_cmp};
-ghost use Rattle.khepri_types.specs.declared.limits.TheConstants.{MAX_PATH_NAMES};
+ghost use Rattle.khepri_types.specs.declared.limits.TheConstants.{MAX_PATH_NAMES, MAX_WATCHES};
 ghost use Rattle.khepri_types.specs.declared.node.Node.{Node};
 ghost use Rattle.khepri_types.specs.Conditions.{last_name, seen_at};
 ghost use Rattle.khepri_types.specs.Sizes.{bytes, kids, node_bytes};
@@ -112,6 +112,7 @@ impl<'a> Draft<'a> {
     pub fn node(&self, path: &Path) -> Option<NodeView>
         ensures node { seen_of result ≡ seen_at self.now.tree path.now }
         ensures watches { IfSome result (λ v. get self.now.tree path.now ≡ Some (node_of v)) }
+        ensures few { IfSome result (λ v. length v.watches.now ≤ MAX_WATCHES) }
     {
         let Some((own, change)) = self.changed.get_key_value(path) else {
             return self.unchanged(path);
@@ -134,6 +135,7 @@ impl<'a> Draft<'a> {
         requires same { get self.now.base path.now ≡ get self.now.tree path.now }
         ensures node { seen_of result ≡ seen_at self.now.tree path.now }
         ensures watches { IfSome result (λ v. get self.now.tree path.now ≡ Some (node_of v)) }
+        ensures few { IfSome result (λ v. length v.watches.now ≤ MAX_WATCHES) }
     {
         let Some(node) = self.base.node(path) else {
             return None;

@@ -1,9 +1,10 @@
 // The tree.
-ghost use Rattle.std.specs.Prelude.{◌≡◌, OnOk, IsTrue, [], Some, IfSome, not, ◌&&◌, ◌++◌, ◌∷◌};
+ghost use Rattle.std.specs.Prelude.{◌≡◌, ◌≤◌, OnOk, IsTrue, [], Some, IfSome, length, not, ◌&&◌, ◌++◌, ◌∷◌};
 ghost use Rattle.std.specs.Option.{option_copied};
 ghost use Rattle.std.specs.FinMap.{from_sorted, get, len};
 ghost use Rattle.khepri_terms.specs.Lengths.{capped};
 ghost use Rattle.khepri_terms.specs.Order.{name_cmp, path_cmp};
+ghost use Rattle.khepri_types.specs.declared.limits.TheConstants.{MAX_WATCHES};
 ghost use Rattle.khepri_types.specs.Conditions.{seen_at};
 ghost use Rattle.khepri_types.specs.Sizes.{bytes, kids};
 ghost use Rattle.khepri_types.specs.Tree.{IsTree, opening_tree, stands};
@@ -103,6 +104,7 @@ impl Tree {
     pub fn node(&self, path: &Path) -> Option<NodeView>
         ensures node { seen_of result ≡ seen_at self.now path.now }
         ensures watches { IfSome result (λ v. get self.now path.now ≡ Some (node_of v)) }
+        ensures few { IfSome result (λ v. length v.watches.now ≤ MAX_WATCHES) }
     {
         let Some((last, above)) = path.names().split_last() else {
             return Some(shown(None, self.root.node(), self.root.kids()));

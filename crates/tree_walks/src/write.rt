@@ -10,7 +10,7 @@ ghost use Rattle.khepri_types.specs.Watching.{given_watches};
 ghost use Rattle.tree_overlay.specs.Over.{is_touched, StaysTouched, Touches};
 
 use khepri_terms::Path;
-use khepri_types::{Payload, Watch};
+use khepri_types::{Payload, Watches};
 use node_sizes::{watched_node, written_node};
 use std::alloc::AllocError;
 use tree_overlay::Draft;
@@ -39,7 +39,7 @@ pub(crate) fn write(draft: &mut Draft, path: &Path, payload: &Payload) -> Result
 }
 
 /// Gives the node at the path these watches in place of its own.
-pub fn set_watches(draft: &mut Draft, path: &Path, watches: &[Watch]) -> Result<(), AllocError>
+pub fn set_watches(draft: &mut Draft, path: &Path, watches: &Watches) -> Result<(), AllocError>
     requires stands { IsTrue (stands draft.old.tree path.now) }
     ensures base { draft.new.base ≡ draft.old.base }
     ensures tree { OnOk result (draft.new.tree ≡ given_watches draft.old.tree path.now watches.now (get draft.old.tree path.now)) }

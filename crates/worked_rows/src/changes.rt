@@ -4,7 +4,7 @@ ghost use Rattle.std.specs.Prelude.{◌≡◌, ◌<◌, length};
 use crate::nodes::tree_of_a_root;
 use khepri_terms::{Path, Rec, TextFault};
 use khepri_types::limits::MAX_PATH_NAMES;
-use khepri_types::{Condition, NodeView, Payload, Watch};
+use khepri_types::{Condition, NodeView, Payload, Watch, Watches};
 use std::alloc::{AllocError, Global};
 use std::collections::{BTreeMap, BTreeSet};
 use std::marker::Brand;
@@ -312,7 +312,10 @@ fn watch<L: Ledger>(
         target: Path::root(alloc),
         cond: Condition::Exists,
     };
-    draft.set_watches(path, &[watch])?;
+    let Some(watches) = Watches::from_vec(vec![in alloc; watch]?) else {
+        return Ok(false);
+    };
+    draft.set_watches(path, &watches)?;
     Ok(true)
 }
 

@@ -12,8 +12,8 @@ items-preserved g c =
       few = omega (arith, c.in_ok-push-in-Ok.ensures.len);
     }
 
-pub returns : goal.returns
-returns g c =
+pub returns-clause-value : goal.returns-clause-value
+returns-clause-value g c =
     let item = g.T.Item.item_at in
     let k = c.args.most - length c.items.items.items in
     elim c.items-test.branch [
