@@ -1,5 +1,5 @@
 -- All tables, and the room that is made for rows.
-use Rattle.std.specs.Prelude.{ℕ, ◌+◌, ◌≤◌, Bool, true, false, cond, ◌&&◌, List, [], ◌∷◌, map, IsTrue, is_some}
+use Rattle.std.specs.Prelude.{ℕ, ◌≡◌, ◌+◌, ◌≤◌, Bool, true, false, cond, ◌&&◌, List, [], ◌∷◌, map, IsTrue, is_some}
 use Rattle.std.specs.List.{AllByRecursion}
 use Rattle.std.specs.Option.{option_map_or}
 use Rattle.std.specs.Ordering.{eq_by_cmp}
@@ -39,6 +39,14 @@ stands es n = is_some (find name_cmp n es)
 -- 1 for this name and key, and 0 for others
 abbrev pub tally : NameText → List Scalar → NameText → List Scalar → ℕ
 tally m l n k = cond (eq_by_cmp name_cmp n m && eq_by_cmp key_cmp k l) 1 0
+
+-- room was made for one row more of a key in the table of this name, and for no other row
+abbrev pub RoomMade : Shelves → Shelves → NameText → List Scalar → Type 0
+RoomMade es fs m l = (n : NameText) (k : List Scalar) → IsTrue (stands es n) → owed_at fs n k ≡ owed_at es n k + tally m l n k
+
+-- room was used for one row of a key in the table of this name, and for no other row
+abbrev pub RoomUsed : Shelves → Shelves → NameText → List Scalar → Type 0
+RoomUsed es fs m l = (n : NameText) (k : List Scalar) → IsTrue (stands es n) → owed_at fs n k + tally m l n k ≡ owed_at es n k
 
 -- how many rows of this key a change puts into the table of this name: 1 or 0
 abbrev pub put_by : RowChange → NameText → List Scalar → ℕ

@@ -1,12 +1,12 @@
 // Row changes in tables that stand: room for all of them first, and then each of them with no memory.
-ghost use Rattle.std.specs.Prelude.{◌≡◌, ◌<◌, ◌≤◌, ◌+◌, ◌++◌, ◌∷◌, [], List, IfOk, OnOk, OnErr, IsTrue};
+ghost use Rattle.std.specs.Prelude.{◌≡◌, ◌<◌, ◌++◌, ◌∷◌, [], List, IfOk, OnOk, OnErr, IsTrue};
 ghost use Rattle.std.specs.List.{AllByRecursion};
-ghost use Rattle.std.specs.FinMap.{empty, get, insert as with_key, remove as without_key};
 ghost use Rattle.khepri_terms.specs.Terms.{NameText};
 ghost use Rattle.khepri_terms.specs.declared.scalar.Scalar.{Scalar};
 ghost use Rattle.khepri_types.specs.declared.row.RowChange.{RowChange as Change};
-ghost use Rattle.khepri_types.specs.Tables.{with_rows, change as changed, changes as all_changed};
-ghost use Rattle.projected_table.specs.Shelves.{AreTables, tables_of, owed_at, stands, tally, Room, is_row};
+ghost use Rattle.khepri_types.specs.declared.row.RowChange.TheVariants.{AddTable, DropTable, PutRow, DropRow};
+ghost use Rattle.khepri_types.specs.Tables.{change as changed, changes as all_changed};
+ghost use Rattle.projected_table.specs.Shelves.{AreTables, tables_of, owed_at, stands, Room, RoomMade, RoomUsed, is_row};
 
 use crate::table::Table;
 use khepri_terms::{Name, Path};
@@ -20,7 +20,7 @@ fn claim_row(tables: &mut BTreeMap<Name, Table>, name: &Name, key: &Key) -> Resu
     ensures tables { AreTables tables.new.entries }
     ensures value { tables_of tables.new.entries ≡ tables_of tables.old.entries }
     ensures names { (n : NameText) → stands tables.new.entries n ≡ stands tables.old.entries n }
-    ensures owed { OnOk result ((n : NameText) (k : List Scalar) → IsTrue (stands tables.old.entries n) → owed_at tables.new.entries n k ≡ owed_at tables.old.entries n k + tally name.now key.now n k) }
+    ensures owed { OnOk result (RoomMade tables.old.entries tables.new.entries name.now key.now) }
 {
     let Some(table) = tables.get_mut(name) else {
         return Ok(());
@@ -33,9 +33,9 @@ fn put_row(tables: &mut BTreeMap<Name, Table>, name: &Name, row: Row)
     requires tables { AreTables tables.old.entries }
     requires room { IsTrue (stands tables.old.entries name.now) → 0 < owed_at tables.old.entries name.now row.key }
     ensures tables { AreTables tables.new.entries }
-    ensures value { tables_of tables.new.entries ≡ with_rows (λ rows. with_key rows (row.key, row.path) row.value) name.now (tables_of tables.old.entries) (get (tables_of tables.old.entries) name.now) }
+    ensures value { tables_of tables.new.entries ≡ changed (PutRow name.now row) (tables_of tables.old.entries) }
     ensures names { (n : NameText) → stands tables.new.entries n ≡ stands tables.old.entries n }
-    ensures owed { (n : NameText) (k : List Scalar) → IsTrue (stands tables.old.entries n) → owed_at tables.new.entries n k + tally name.now row.key n k ≡ owed_at tables.old.entries n k }
+    ensures owed { RoomUsed tables.old.entries tables.new.entries name.now row.key }
 {
     let Some(table) = tables.get_mut(name) else {
         return;
@@ -47,7 +47,7 @@ fn put_row(tables: &mut BTreeMap<Name, Table>, name: &Name, row: Row)
 fn cut_row(tables: &mut BTreeMap<Name, Table>, name: &Name, key: &Key, path: &Path)
     requires tables { AreTables tables.old.entries }
     ensures tables { AreTables tables.new.entries }
-    ensures value { tables_of tables.new.entries ≡ with_rows (λ rows. without_key rows (key.now, path.now)) name.now (tables_of tables.old.entries) (get (tables_of tables.old.entries) name.now) }
+    ensures value { tables_of tables.new.entries ≡ changed (DropRow name.now key.now path.now) (tables_of tables.old.entries) }
     ensures names { (n : NameText) → stands tables.new.entries n ≡ stands tables.old.entries n }
     ensures owed { (n : NameText) (k : List Scalar) → owed_at tables.new.entries n k ≡ owed_at tables.old.entries n k }
 {
@@ -160,7 +160,7 @@ pub(crate) fn add_table(
 ) -> Result<(), AllocError>
     requires tables { AreTables tables.old.entries }
     ensures tables { AreTables tables.new.entries }
-    ensures value { OnOk result (tables_of tables.new.entries ≡ with_key (tables_of tables.old.entries) name.now (record { bag = bag; rows = empty })) }
+    ensures value { OnOk result (tables_of tables.new.entries ≡ changed (AddTable name.now bag) (tables_of tables.old.entries)) }
     ensures err { OnErr result (tables_of tables.new.entries ≡ tables_of tables.old.entries) }
 {
     tables.insert(name.copy()?, Table::new(alloc, bag))?;
@@ -171,7 +171,7 @@ pub(crate) fn add_table(
 pub(crate) fn drop_table(tables: &mut BTreeMap<Name, Table>, name: &Name)
     requires tables { AreTables tables.old.entries }
     ensures tables { AreTables tables.new.entries }
-    ensures value { tables_of tables.new.entries ≡ without_key (tables_of tables.old.entries) name.now }
+    ensures value { tables_of tables.new.entries ≡ changed (DropTable name.now) (tables_of tables.old.entries) }
 {
     tables.remove(name);
 }
