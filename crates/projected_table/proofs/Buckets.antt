@@ -1,18 +1,18 @@
 -- Rows of one key as lists and as maps.
-use Rattle.std.proofs.Common.{◌≡◌, ℕ, ◌<◌, List, ◌∷◌, ◌++◌, map, take, drop, get_or, length, refl, sym, ap, subst, ◌∙◌, not, suc, true, false, Bool, cond, [], set, arith, Option, Some, None}
+use Rattle.std.proofs.Common.{◌≡◌, ℕ, ◌<◌, List, ◌∷◌, ◌++◌, map, take, drop, get_or, length, refl, sym, ap, subst, ◌∙◌, not, suc, true, false, Bool, cond, [], set, arith, None}
 use Rattle.std.specs.Prelude.{IsTrue, T, insert}
 use Rattle.std.specs.List.{remove}
 use Rattle.std.specs.Ordering.{eq_by_cmp, is_eq}
 use Rattle.std.specs.Cmp.{alike_right, eq_by_cmp_equiv}
-use Rattle.std.specs.FinMap.{FinMap, empty, get, entries, from_sorted, is_sorted, put, find, insert as with_key, remove as without_key, same_entries_map, same_map, get-from_sorted, get-remove, get-empty, entries-insert, entries-from_sorted}
-use Rattle.std.specs.FinMap.Entries.{where_key, is_sorted-where_key, is_sorted-put, find-where_key}
+use Rattle.std.specs.FinMap.{empty, get, entries, from_sorted, is_sorted, put, find, insert as with_key, remove as without_key, same_entries_map, same_map, get-from_sorted, get-remove, get-empty, entries-insert, entries-from_sorted}
+use Rattle.std.specs.FinMap.Entries.{is_sorted-where_key, is_sorted-put, find-where_key}
 use Rattle.std.proofs.lemmas.List.{take-map, drop-map, map-append, get_or-map, map-set}
 use Rattle.khepri_terms.specs.Terms.{NameText}
 use Rattle.khepri_terms.specs.declared.scalar.Scalar.{Scalar}
 use Rattle.khepri_terms.specs.Order.{path_cmp}
 use Rattle.khepri_types.proofs.Order.{path_cmp_total, path_cmp-same}
 use Rattle.khepri_types.specs.declared.row.Row.{Row}
-use Rattle.projected_table.specs.Buckets.{Cells, cell, without}
+use Rattle.projected_table.specs.Buckets.{cell, without}
 use Rattle.projected_table.proofs.Places.{Entry, IsSorted}
 
 held : (b : _) → T b → IsTrue b

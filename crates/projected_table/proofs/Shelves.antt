@@ -1,5 +1,5 @@
 -- What the calls of the map of all tables do to them.
-use Rattle.std.proofs.Common.{◌≡◌, ℕ, ◌+◌, ◌≤◌, ◌<◌, Bool, true, false, cond, ◌&&◌, List, [], ◌∷◌, ◌++◌, map, refl, sym, ap, subst, ◌∙◌, arith, Option, Some, None, Less, Equal, Greater}
+use Rattle.std.proofs.Common.{◌≡◌, ℕ, ◌+◌, ◌<◌, Bool, true, false, cond, ◌&&◌, List, [], ◌∷◌, ◌++◌, map, refl, sym, ap, subst, ◌∙◌, arith, Option, Some, None, Less, Equal, Greater}
 use Rattle.std.specs.Prelude.{IsTrue, T, is_some}
 use Rattle.std.specs.List.{AllByRecursion}
 use Rattle.std.specs.List.Sorted.{IsStrictlySortedBy}
@@ -8,7 +8,7 @@ use Rattle.std.specs.BTreeMap.{BTreeMap, insert_entry, is_at, UpdatesBy, WritesT
 use Rattle.std.specs.Option.{option_map, option_map_or}
 use Rattle.std.specs.Ordering.{eq_by_cmp, is_eq, is_lt, match_ordering}
 use Rattle.std.specs.Cmp.{eq_by_cmp_equiv}
-use Rattle.std.specs.FinMap.{find, is_sorted, get, get-from_sorted, get-insert, get-remove, get-empty, empty, insert, remove, from_sorted, same_map}
+use Rattle.std.specs.FinMap.{find, is_sorted, get, get-from_sorted, get-insert, get-remove, get-empty, empty, insert, remove, same_map}
 use Rattle.std.specs.FinMap.Entries.{below_all}
 use Rattle.khepri_terms.specs.Terms.{NameText}
 use Rattle.khepri_terms.specs.declared.scalar.Scalar.{Scalar}

@@ -1,19 +1,18 @@
 -- What is found in the rows of a table, by those of its keys.
-use Rattle.std.proofs.Common.{◌≡◌, ℕ, Bool, true, false, cond, List, [], ◌∷◌, ◌++◌, map, refl, sym, ap, subst, ◌∙◌, Option, Some, None, Less, Equal, Greater, ◌&&◌}
+use Rattle.std.proofs.Common.{◌≡◌, true, false, cond, List, [], ◌∷◌, ◌++◌, map, refl, sym, ap, subst, ◌∙◌, Option, Some, None, Less, Equal, Greater, ◌&&◌}
 use Rattle.std.specs.Prelude.{IsTrue, T}
 use Rattle.std.specs.List.{AllByRecursion}
 use Rattle.std.specs.Option.{option_and_then, option_map, option_map_or, option_or}
 use Rattle.std.specs.Ordering.{is_eq, is_lt, eq_by_cmp, ordering_then}
 use Rattle.std.specs.declared.cmp.Ordering.{Ordering}
 use Rattle.std.specs.Cmp.{tied_itself}
-use Rattle.std.specs.FinMap.{empty, get-empty, find, is_sorted, entries, entries_sorted, get, get-entries, insert, remove, from_sorted, get-from_sorted, entries-from_sorted, get-insert, get-remove, same_map}
+use Rattle.std.specs.FinMap.{empty, get-empty, find, is_sorted, entries, entries_sorted, get, insert, remove, get-from_sorted, entries-from_sorted, get-insert, get-remove, same_map}
 use Rattle.std.specs.FinMap.Entries.{below_all}
 use Rattle.khepri_terms.specs.Terms.{NameText}
 use Rattle.khepri_terms.specs.declared.scalar.Scalar.{Scalar}
 use Rattle.khepri_terms.specs.Order.{path_cmp}
-use Rattle.khepri_types.proofs.Order.{path_cmp_total}
 use Rattle.khepri_types.specs.Keys.{Place, key_cmp, key_total, place_cmp}
-use Rattle.khepri_types.specs.Tables.{Rows, rows_at}
+use Rattle.khepri_types.specs.Tables.{rows_at}
 use Rattle.khepri_types.proofs.PlaceOrder.{key_cmp-same, place_total, place_same}
 use Rattle.projected_table.specs.Buckets.{Bucketed, Cells}
 use Rattle.projected_table.specs.Spreads.{Buckets, onto, spread, rows_of, owed_in}

@@ -1,4 +1,4 @@
-use Rattle.std.proofs.Common.{ℕ, ◌≡◌, ◌+◌, ◌∙◌, sym, ap, refl, arith}
+use Rattle.std.proofs.Common.{◌≡◌, ◌+◌, ◌∙◌, sym, ap, refl, arith}
 use Rattle.khepri_types.specs.declared.row.RowChange.{RowChange}
 use Rattle.projected_table.specs.Shelves.{put_by, owed_at}
 use Rattle.projected_table.proofs.Finding.{ok-weaker}

@@ -1,12 +1,9 @@
-use Rattle.std.proofs.Common.{ℕ, ◌≡◌, ◌+◌, ◌∙◌, sym, ap, arith}
+use Rattle.std.proofs.Common.{ℕ, ◌+◌, ◌∙◌, sym, ap, arith}
 use Rattle.std.specs.Option.{option_copied_mut}
-use Rattle.std.specs.FinMap.{insert as with_key, remove as without_key}
+use Rattle.std.specs.FinMap.{insert as with_key}
 use Rattle.khepri_types.specs.Tables.{Rows}
-use Rattle.projected_table.specs.Spreads.{IsTable, table_of}
 use Rattle.projected_table.specs.Shelves.{tally}
-use Rattle.projected_table.specs.declared.table.Table.{Table}
-use Rattle.projected_table.proofs.Finding.{ok-weaker}
-use Rattle.projected_table.proofs.Shelves.{written, is_table, names_stay, table_rows, table_same, owed_more, owed_less, owed_same, room_of, absent_tables, absent_rows, absent_same, absent_names, absent_owed, absent_tally}
+use Rattle.projected_table.proofs.Shelves.{written, is_table, names_stay, table_rows, owed_less, room_of, absent_rows, absent_owed, absent_tally}
 use Rattle.projected_table.proofs.apply.put_row.Goals as goal
 
 pub returns-in_default-clause-value : goal.returns-in_default-clause-value

@@ -1,10 +1,10 @@
-use Rattle.std.proofs.Common.{◌≡◌, ◌<◌, ◌+◌, ◌-◌, ◌/◌, ℕ, List, length, map, sym, ◌∙◌, ap, subst, arith, Less, Greater}
+use Rattle.std.proofs.Common.{◌≡◌, ◌<◌, ◌+◌, ◌-◌, ◌/◌, ℕ, length, map, sym, ◌∙◌, ap, subst, arith}
 use Rattle.std.proofs.lemmas.List.{length-map}
 use Rattle.khepri_terms.specs.Order.{path_cmp}
 use Rattle.khepri_types.specs.declared.row.Row.{Row}
 use Rattle.projected_table.specs.Buckets.{cell}
 use Rattle.projected_table.proofs.Buckets.{cell_at}
-use Rattle.projected_table.proofs.Places.{Entry, Below-after, Above, Above-at, sets_here, goes_here, adds_here, stays_here}
+use Rattle.projected_table.proofs.Places.{Below-after, Above, Above-at, sets_here, goes_here, adds_here, stays_here}
 use Rattle.projected_table.proofs.bucket.slot.Goals as goal
 
 -- the row in the middle as a cell

@@ -1,10 +1,8 @@
-use Rattle.std.proofs.Common.{List, map, sym, ap, ◌∙◌, arith, length, refl, subst, ◌≡◌}
+use Rattle.std.proofs.Common.{List, map, sym, ap, ◌∙◌, arith, subst, ◌≡◌}
 use Rattle.std.specs.List.{remove}
-use Rattle.std.specs.FinMap.{from_sorted, remove as without_key}
-use Rattle.khepri_terms.specs.Order.{path_cmp}
+use Rattle.std.specs.FinMap.{remove as without_key}
 use Rattle.khepri_types.specs.declared.row.Row.{Row}
 use Rattle.projected_table.specs.Buckets.{Bucketed, cell, without}
-use Rattle.projected_table.proofs.Places.{Entry}
 use Rattle.projected_table.proofs.Buckets.{map-remove, cells-without, without_is}
 use Rattle.projected_table.proofs.bucket.Bucket.cut.Goals as goal
 

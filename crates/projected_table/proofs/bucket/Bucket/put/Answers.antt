@@ -1,7 +1,6 @@
-use Rattle.std.proofs.Common.{List, map, sym, ap, ◌∙◌, arith, length, refl, set, ◌≡◌}
-use Rattle.std.specs.FinMap.{put, insert as with_key}
+use Rattle.std.proofs.Common.{map, ap, ◌∙◌, arith}
+use Rattle.std.specs.FinMap.{insert as with_key}
 use Rattle.std.proofs.lemmas.List.{length-set}
-use Rattle.khepri_terms.specs.Order.{path_cmp}
 use Rattle.khepri_types.specs.declared.row.Row.{Row}
 use Rattle.projected_table.specs.Buckets.{Bucketed, cell}
 use Rattle.projected_table.proofs.Buckets.{cells-put, put_is, set_cells, insert_cells}

@@ -1,4 +1,4 @@
-use Rattle.std.proofs.Common.{ℕ, List, ◌≡◌, ◌+◌, cond, ◌∙◌, ap}
+use Rattle.std.proofs.Common.{ℕ, ◌+◌, cond, ◌∙◌, ap}
 use Rattle.std.specs.Ordering.{eq_by_cmp}
 use Rattle.khepri_types.specs.Keys.{key_cmp}
 use Rattle.projected_table.proofs.Named.{sorted_now, same_there, owed_more}

@@ -1,5 +1,3 @@
-use Rattle.khepri_types.specs.Tables.{Rows}
-use Rattle.khepri_types.specs.Tables.{TableRows}
 use Rattle.projected_table.proofs.Spreads.{no_spread}
 use Rattle.projected_table.proofs.table.Table.new.Goals as goal
 

@@ -1,5 +1,5 @@
-use Rattle.std.proofs.Common.{List, [], sym, ap, ◌∙◌, Option, Some, None}
-use Rattle.std.specs.Option.{option_map_or, option_copied}
+use Rattle.std.proofs.Common.{[], sym, ap, ◌∙◌, Option}
+use Rattle.std.specs.Option.{option_map_or}
 use Rattle.std.specs.FinMap.{entries}
 use Rattle.khepri_types.specs.Keys.{key_cmp}
 use Rattle.projected_table.specs.Buckets.{Bucketed}

@@ -1,10 +1,8 @@
-use Rattle.std.proofs.Common.{◌≡◌, List, [], map, length, sym, ap, ◌∙◌, arith}
+use Rattle.std.proofs.Common.{◌≡◌, [], sym, ap, ◌∙◌, arith}
 use Rattle.std.specs.Option.{option_copied_mut}
 use Rattle.std.specs.FinMap.{entries}
-use Rattle.khepri_types.specs.declared.row.Row.{Row}
 use Rattle.khepri_types.specs.Tables.{rows_at}
-use Rattle.projected_table.specs.Buckets.{cell}
-use Rattle.projected_table.specs.Spreads.{table_of, rows_of}
+use Rattle.projected_table.specs.Spreads.{rows_of}
 use Rattle.projected_table.proofs.Buckets.{no_rows}
 use Rattle.projected_table.proofs.Named.{sorted_now, bare_rows, same_there, absent_owed, Map}
 use Rattle.projected_table.proofs.table.Table.tidy.Goals as goal

@@ -1,5 +1,5 @@
 use Rattle.std.proofs.Common.{ap, ◌∙◌}
-use Rattle.khepri_types.specs.Tables.{AllTables, TablesAt, changes}
+use Rattle.khepri_types.specs.Tables.{changes}
 use Rattle.projected_table.proofs.Shelves.{no_tables}
 use Rattle.projected_table.proofs.tables.Tables.absorb_whole.Goals as goal
 

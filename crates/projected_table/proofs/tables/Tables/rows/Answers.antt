@@ -1,10 +1,7 @@
-use Rattle.std.proofs.Common.{List, ◌≡◌, Option, Some, None, sym, ap, ◌∙◌}
+use Rattle.std.proofs.Common.{Some, None, sym, ap, ◌∙◌}
 use Rattle.std.specs.Option.{option_map}
-use Rattle.std.specs.FinMap.{entries, get}
-use Rattle.khepri_terms.specs.Terms.{NameText}
-use Rattle.khepri_terms.specs.declared.scalar.Scalar.{Scalar}
+use Rattle.std.specs.FinMap.{entries}
 use Rattle.khepri_types.specs.Tables.{TableRows, TablesAt, look_up, rows_at, shown_of}
-use Rattle.projected_table.specs.Spreads.{table_of}
 use Rattle.projected_table.proofs.Shelves.{looked, looked_table}
 use Rattle.projected_table.proofs.tables.Tables.rows.Goals as goal
 
