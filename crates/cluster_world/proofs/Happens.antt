@@ -1,5 +1,5 @@
 -- Whatever happens, what holds of a world is kept.
-use Rattle.std.proofs.Common.{◌≡◌, ℕ, zero, suc, ◌-◌, ◌<◌, ◌≤◌, Bool, true, false, cond, ◌&&◌, nat_lt, ◌==◌, All, List, [], ◌∷◌, length, take, drop, set, get_or, ◌++◌, ◌-◌, ◌≢◌, nat_le, length-drop, Option, Some, None, refl, sym, ap, ◌∙◌, subst, arith, inl, ⊎_elim}
+use Rattle.std.proofs.Common.{◌≡◌, ℕ, zero, suc, ◌-◌, ◌<◌, ◌≤◌, Bool, true, false, cond, ◌&&◌, nat_lt, ◌==◌, All, List, [], ◌∷◌, length, take, drop, set, get_or, ◌++◌, ◌-◌, ◌≢◌, nat_le, length-drop, Option, Some, None, refl, sym, ap, ◌∙◌, subst, arith, inl, inr, ⊎_elim}
 use Rattle.std.proofs.lemmas.Bool.{cases_lt, and_parts}
 use Rattle.std.proofs.lemmas.List.Elements.{All-head, All-cons, All-weaker, All-append, All-take, All-drop}
 use Rattle.raft_types.specs.declared.limits.TheConstants.{MAX_INDEX}
@@ -20,11 +20,13 @@ use Rattle.raft_spine.proofs.Grow.{grows_both}
 use Rattle.cluster_world.specs.World.{Machine, Node, Placed, World, nobody, log_of, core_of, refreshed, last_of, node_at}
 use Rattle.cluster_world.specs.Node.{applied_before, ended, halted, is_due, tidied, tidied_if_due}
 use Rattle.cluster_world.specs.Events.{with_node, sent, own_event, may_append, next_entry, tidies, tidies_if_due, starts, fails_to_start, without, arrives, delivers}
-use Rattle.cluster_world.specs.Facts.{IsFit}
+use Rattle.cluster_world.specs.Facts.{IsFit, IsAmong}
 use Rattle.cluster_world.proofs.Steps.{ChunkWithin, IsPast, Steps, own_steps, fire_steps, timeout_steps, beat_steps}
 use Rattle.cluster_world.proofs.Roles.{no_follower}
-use Rattle.cluster_world.proofs.Keeping.{NodeKept, InFlight, Kept, Onward, Within, Forward, within_put, onward_same, onward_node, up_inside, with_node_same}
-use Rattle.cluster_world.proofs.Holding.{Took, Holds, took_on, differs_on, holds_on, one_differs, one_longer}
+use Rattle.cluster_world.proofs.Origins.{AllFrom, KnownBody, KnownEvent}
+use Rattle.cluster_world.proofs.Sourcing.{known_above, sourced_weaker}
+use Rattle.cluster_world.proofs.Keeping.{NodeKept, InFlight, Kept, Onward, Within, Sourced, Forward, within_put, sourced_put, onward_same, onward_node, up_inside, with_node_same}
+use Rattle.cluster_world.proofs.Holding.{Took, IsKnown, noop_known, among_first, fires_more, takes_more, known_same, Holds, took_on, differs_on, holds_on, one_differs, one_longer}
 use Rattle.cluster_world.proofs.Worlds.{kept_own, kept_arrives, refreshed_kept, tidied_kept}
 
 -- a node with the same whole log and a snapshot at least as far
@@ -93,12 +95,34 @@ module _ (b : Start) (m : Machine) (s0 : Spine) (w : World) (h : Holds b m s0 w)
       (λ (past : length w.nodes ≤ place). subst (λ (ns : List Node). Within b (record w { nodes = ns })) (sym (set_past w.nodes place n' past)) x)
       (cases_lt place (length w.nodes))
 
+  sourced_change : {K : Placed → Type 0} (k : ℕ) (n' : Node) → ((place : ℕ) → k ≡ suc place → place < length w.nodes → IsAlike b m h.kept.spine k (node_at b w k) n') → Sourced K b w → Sourced K b (with_node k n' w)
+  sourced_change zero n' f x = x
+  sourced_change {K} (suc place) n' f x = ⊎_elim
+      (λ (inside : place < length w.nodes).
+      let n = node_at b w (suc place) in
+      let a = f place refl inside in
+      sourced_put K b w place n' inside x
+      (subst (λ (l : List LogEntry). AllFrom K (suc n'.base) (drop (n'.base - b.base) l)) (sym a.whole) (known_above K b n.whole n.base n'.base (h.kept.nodes place inside).tied.based a.base (x.nodes place inside))))
+      (λ (past : length w.nodes ≤ place). subst (λ (ns : List Node). Sourced K b (record w { nodes = ns })) (sym (set_past w.nodes place n' past)) x)
+      (cases_lt place (length w.nodes))
+
+  beside_put : (k : ℕ) (n' : Node) → ((with_node k n' w).opened ≡ w.opened) × ((with_node k n' w).fires ≡ w.fires)
+  beside_put zero n' = (refl, refl)
+  beside_put (suc place) n' = (refl, refl)
+
   started_put : (k : ℕ) (n' : Node) → (with_node k n' w).all_started ≡ w.all_started
   started_put zero n' = refl
   started_put (suc place) n' = refl
 
   pub kept_put : (k : ℕ) (n' : Node) → ((place : ℕ) → k ≡ suc place → place < length w.nodes → IsAlike b m h.kept.spine k (node_at b w k) n') → Holds b m s0 (with_node k n' w)
-  kept_put k n' f = holds_on b m s0 w (with_node k n' w) h (record { onward = onward_put k n' f; started = started_put k n'; within = λ e x. within_change k n' f x })
+  kept_put k n' f = holds_on b m s0 w (with_node k n' w) h (record {
+    onward = onward_put k n' f;
+    opened = (beside_put k n').0;
+    fires = (beside_put k n').1;
+    started = started_put k n';
+    within = λ e x. within_change k n' f x;
+    sourced = sourced_change k n' f;
+  })
 
   ok_at : (k place : ℕ) → k ≡ suc place → place < length w.nodes → NodeKept b m h.kept.spine k (node_at b w k)
   ok_at k place e inside = subst (λ (j : ℕ). NodeKept b m h.kept.spine j (node_at b w j)) (sym e) (h.kept.nodes place inside)
@@ -135,23 +159,23 @@ module _ (b : Start) (m : Machine) (s0 : Spine) (w : World) (h : Holds b m s0 w)
       answer true = kept_tidies k stop
       answer false = h
 
-  -- the same nodes and history, with other things beside them
-  pub refit : (flight : List Message) → All (InFlight b m h.kept.spine w) flight → (All (λ x. ChunkWithin w.placed x.body) w.flight → All (λ x. ChunkWithin w.placed x.body) flight) → (cuts : List (ℕ × ℕ)) (hold : Bool) (fires : List Placed)
-      → Holds b m s0 (record w { flight = flight; cuts = cuts; hold = hold; fires = fires })
-  refit flight f g cuts hold fires = record {
-    kept = refit_kept b m w h.kept flight f cuts hold w.takes w.opened w.all_started fires;
+  -- the same nodes and history, with some of what is in flight, and other cuts
+  pub refit : (flight : List Message) → ((P : Message → Type 0) → All P w.flight → All P flight) → (cuts : List (ℕ × ℕ)) (hold : Bool) → Holds b m s0 (record w { flight = flight; cuts = cuts; hold = hold })
+  refit flight g cuts hold = record {
+    kept = refit_kept b m w h.kept flight (g (InFlight b m h.kept.spine w) h.kept.flight) cuts hold w.takes w.opened w.all_started w.fires;
     since = h.since;
     count = h.count;
-    took = All-weaker (Took b h.kept.spine w) (Took b h.kept.spine (record w { flight = flight; cuts = cuts; hold = hold; fires = fires })) (λ x t. record { led = t.led; within = t.within }) w.takes h.took;
+    took = All-weaker (Took b h.kept.spine w) (Took b h.kept.spine (record w { flight = flight; cuts = cuts; hold = hold })) (λ x t. record { led = t.led; within = t.within }) w.takes h.took;
     differ = h.differ;
-    longer = λ e. let x = h.longer e in record { nodes = x.nodes; flight = g x.flight };
+    longer = λ e. let x = h.longer e in record { nodes = x.nodes; flight = g (λ x. ChunkWithin w.placed x.body) x.flight };
+    sourced = let x = h.sourced in record { nodes = x.nodes; flight = g (λ x. KnownBody (IsKnown w.opened w.fires w.takes) x.body) x.flight; history = x.history };
   }
 
   without_all : (P : Message → Type 0) (xs : List Message) (place : ℕ) → All P xs → All P (without xs place)
   without_all P xs place f = All-append P (take place xs) (drop (suc place) xs) (All-take P place xs f) (All-drop P (suc place) xs f)
 
   pub kept_drops : (place : ℕ) → Holds b m s0 (record w { flight = without w.flight place })
-  kept_drops place = refit (without w.flight place) (without_all (InFlight b m h.kept.spine w) w.flight place h.kept.flight) (without_all (λ x. ChunkWithin w.placed x.body) w.flight place) w.cuts w.hold w.fires
+  kept_drops place = refit (without w.flight place) (λ P f. without_all P w.flight place f) w.cuts w.hold
 
 -- a leader is one of the nodes
 lead_inside : (b : Start) (w : World) (place : ℕ) → (node_at b w (suc place)).role ≡ Leader → place < length w.nodes
@@ -170,15 +194,15 @@ history_at b v k false p l ms = refl
 
 module _ (b : Start) (m : Machine) (s0 : Spine) (fit : IsFit b m) where
   pub kept_delivers : (w : World) (h : Holds b m s0 w) (place : ℕ) (again : Bool) (stop : Option ℕ) (xs : List Message) → All (InFlight b m h.kept.spine w) xs
-      → (w.all_started ≡ true → All (λ x. ChunkWithin w.placed x.body) xs) → Holds b m s0 (delivers b m place again stop xs w)
+      → (w.all_started ≡ true → All (λ x. ChunkWithin w.placed x.body) xs) → All (λ x. KnownBody (IsKnown w.opened w.fires w.takes) x.body) xs → Holds b m s0 (delivers b m place again stop xs w)
   unfolding kept_drops refit
-  kept_delivers w h place again stop [] f g = h
-  kept_delivers w h place true stop (x ∷ xs) f g = holds_on b m s0 w (arrives b m x stop w) h (kept_arrives b m fit w h.kept x.from x.to x.body (All-head (InFlight b m h.kept.spine w) x xs f) (λ q. All-head (λ (y : Message). ChunkWithin w.placed y.body) x xs (g q)) stop)
-  kept_delivers w h place false stop (x ∷ xs) f g =
+  kept_delivers w h place again stop [] f g c = h
+  kept_delivers w h place true stop (x ∷ xs) f g c = holds_on b m s0 w (arrives b m x stop w) h (kept_arrives b m fit w h.kept (IsKnown w.opened w.fires w.takes) (noop_known w.opened w.fires w.takes) x.from x.to x.body (All-head (InFlight b m h.kept.spine w) x xs f) (λ q. All-head (λ (y : Message). ChunkWithin w.placed y.body) x xs (g q)) (All-head (λ (y : Message). KnownBody (IsKnown w.opened w.fires w.takes) y.body) x xs c) stop)
+  kept_delivers w h place false stop (x ∷ xs) f g c =
       let y = All-head (InFlight b m h.kept.spine w) x xs f in
       let v : World = record w { flight = without w.flight place } in
       let k : Holds b m s0 v = kept_drops b m s0 w h place in
-      holds_on b m s0 v (arrives b m x stop v) k (kept_arrives b m fit v k.kept x.from x.to x.body (moved k refl y) (λ q. All-head (λ (y : Message). ChunkWithin w.placed y.body) x xs (g q)) stop)
+      holds_on b m s0 v (arrives b m x stop v) k (kept_arrives b m fit v k.kept (IsKnown w.opened w.fires w.takes) (noop_known w.opened w.fires w.takes) x.from x.to x.body (moved k refl y) (λ q. All-head (λ (y : Message). ChunkWithin w.placed y.body) x xs (g q)) (All-head (λ (y : Message). KnownBody (IsKnown w.opened w.fires w.takes) y.body) x xs c) stop)
     where
       moved : (k : Holds b m s0 (record w { flight = without w.flight place })) → k.kept.spine ≡ h.kept.spine → InFlight b m h.kept.spine w x → InFlight b m k.kept.spine (record w { flight = without w.flight place }) x
       moved k e y = subst (λ (s : Spine). InFlight b m s (record w { flight = without w.flight place }) x) (sym e)
@@ -188,8 +212,9 @@ module _ (b : Start) (m : Machine) (s0 : Spine) (fit : IsFit b m) where
   pub holds_own : (w : World) (h : Holds b m s0 w) (place : ℕ) → place < length w.nodes → (event : CoreEvent)
       → Asked b m.len h.kept.spine (core_of b m (suc place) (node_at b w (suc place))) [] event
       → Steps (suc place) (node_at b w (suc place)).base (node_at b w (suc place)).base (node_at b w (suc place)).applied (on (core_of b m (suc place) (node_at b w (suc place))) event)
-      → (stop : Option ℕ) → Holds b m s0 (own_event b m (suc place) event stop w)
-  holds_own w h place inside event a st stop = holds_on b m s0 w (own_event b m (suc place) event stop w) h (kept_own b m fit w h.kept place inside event a st stop)
+      → KnownEvent (IsKnown w.opened w.fires w.takes) (core_of b m (suc place) (node_at b w (suc place))) event → (stop : Option ℕ) → Holds b m s0 (own_event b m (suc place) event stop w)
+  holds_own w h place inside event a st new stop =
+      holds_on b m s0 w (own_event b m (suc place) event stop w) h (kept_own b m fit (IsKnown w.opened w.fires w.takes) (noop_known w.opened w.fires w.takes) w h.kept place inside event a st new stop)
 
   past : (w : World) (h : Holds b m s0 w) (place : ℕ) → (inside : place < length w.nodes) → IsPast (suc place) (node_at b w (suc place)).base (node_at b w (suc place)).base (node_at b w (suc place)).applied (core_of b m (suc place) (node_at b w (suc place)))
   past w h place inside = record { same = refl; base = omega arith; below = omega arith; commit = (h.kept.nodes place inside).to_commit }
@@ -203,7 +228,7 @@ module _ (b : Start) (m : Machine) (s0 : Spine) (fit : IsFit b m) where
       answer true e =
           let inside = up_inside b w place e in
           holds_own w h place inside TimeoutEvent tt
-          (timeout_steps (suc place) (node_at b w (suc place)).base (node_at b w (suc place)).base (node_at b w (suc place)).applied (core_of b m (suc place) (node_at b w (suc place))) (past w h place inside)) stop
+          (timeout_steps (suc place) (node_at b w (suc place)).base (node_at b w (suc place)).base (node_at b w (suc place)).applied (core_of b m (suc place) (node_at b w (suc place))) (past w h place inside)) tt stop
 
   pub kept_beat : (w : World) (h : Holds b m s0 w) (k : ℕ) (stop : Option ℕ) → Holds b m s0 (cond ((node_at b w k).up && is_leader (node_at b w k).role) (own_event b m k BeatEvent stop w) w)
   kept_beat w h zero stop = h
@@ -215,16 +240,15 @@ module _ (b : Start) (m : Machine) (s0 : Spine) (fit : IsFit b m) where
           let y = and_parts (node_at b w (suc place)).up (is_leader (node_at b w (suc place)).role) e in
           let inside = up_inside b w place y.0 in
           holds_own w h place inside BeatEvent (leader_role (node_at b w (suc place)).role y.1)
-          (beat_steps (suc place) (node_at b w (suc place)).base (node_at b w (suc place)).base (node_at b w (suc place)).applied (core_of b m (suc place) (node_at b w (suc place))) (past w h place inside)) stop
+          (beat_steps (suc place) (node_at b w (suc place)).base (node_at b w (suc place)).base (node_at b w (suc place)).applied (core_of b m (suc place) (node_at b w (suc place))) (past w h place inside)) tt stop
 
   -- an entry of a leader that has room is one of its term past all that were taken in it
-  taken : (w : World) (h : Holds b m s0 w) (place : ℕ) → place < length w.nodes → (node_at b w (suc place)).role ≡ Leader → (e : List ℕ) (v : World) → Forward b m h.kept.spine w v
+  taken : (w : World) (h : Holds b m s0 w) (place : ℕ) → place < length w.nodes → (node_at b w (suc place)).role ≡ Leader → (e : List ℕ) (v : World) → Forward b m h.kept.spine (IsKnown w.opened w.fires (next_entry b (node_at b w (suc place)) e ∷ w.takes)) w v
       → ((node_at b v (suc place)).role ≡ Leader → suc (last_of b (node_at b w (suc place))) ≤ last_of b (node_at b v (suc place)))
       → Holds b m s0 (record v { takes = next_entry b (node_at b w (suc place)) e ∷ v.takes })
   taken w h place inside lead e v f long =
       let o = f.onward in
       let x = next_entry b (node_at b w (suc place)) e in
-      let hv : Holds b m s0 v = holds_on b m s0 w v h f in
       record {
         kept = refit_kept b m v o.kept v.flight o.kept.flight v.cuts v.hold (x ∷ v.takes) v.opened v.all_started v.fires;
         since = grows_both s0 h.kept.spine o.kept.spine h.since o.grows;
@@ -234,7 +258,10 @@ module _ (b : Start) (m : Machine) (s0 : Spine) (fit : IsFit b m) where
             (subst (λ (xs : List Placed). All (Took b o.kept.spine (record v { takes = x ∷ v.takes })) xs) (sym o.takes)
             (All-weaker (Took b h.kept.spine w) (Took b o.kept.spine (record v { takes = x ∷ v.takes }))
             (λ y t. let u = took_on b m h.kept.spine w v o y t in record { led = u.led; within = u.within }) w.takes h.took));
-        longer = λ e. let x = hv.longer e in record { nodes = x.nodes; flight = x.flight };
+        longer = λ e. let y = f.within (sym f.started ∙ e) (h.longer (sym f.started ∙ e)) in record { nodes = y.nodes; flight = y.flight };
+        sourced = let y = known_same b v w.opened v.opened w.fires v.fires (x ∷ w.takes) (x ∷ v.takes) f.opened f.fires (ap (λ (xs : List Placed). x ∷ xs) o.takes)
+            (f.sourced (sourced_weaker (IsKnown w.opened w.fires w.takes) (IsKnown w.opened w.fires (x ∷ w.takes)) (takes_more w.opened x w.fires w.takes) b w h.sourced)) in
+            record { nodes = y.nodes; flight = y.flight; history = y.history };
         differ = one_differs v x (differs_on b m s0 w v h o)
             (subst (λ (xs : List Placed). All (λ (y : Placed). y.term ≡ x.term → y.index < x.index) xs) (sym o.takes)
             (All-weaker (Took b h.kept.spine w) (λ (y : Placed). y.term ≡ x.term → y.index < x.index)
@@ -279,6 +306,29 @@ module _ (b : Start) (m : Machine) (s0 : Spine) (fit : IsFit b m) where
       let r : suc (last_of b n) ≤ last_of b n' = omega (arith, y) in
       subst (λ (x : Node). suc (last_of b n) ≤ last_of b x) (sym z) r
 
+  -- a leader's next entry is among those that it joins
+  own_among : (w : World) (h : Holds b m s0 w) (place : ℕ) → place < length w.nodes → (e : List ℕ) (xs : List Placed)
+      → IsAmong (next_entry b (node_at b w (suc place)) e ∷ xs) (record { index = suc (last_index (log_of b (node_at b w (suc place)))); term = (node_at b w (suc place)).term; entry = e })
+  own_among w h place inside e xs =
+      let n = node_at b w (suc place) in
+      let t = (h.kept.nodes place inside).tied in
+      let lo = t.based in let kn = t.known in let sh = t.short in let ld = length-drop (n.base - b.base) n.whole in
+      subst (λ (i : ℕ). IsAmong (next_entry b n e ∷ xs) (record { index = i; term = n.term; entry = e })) (let z : suc (last_of b n) ≡ suc (last_index (log_of b n)) = omega (arith, lo, kn, sh, ld) in z) (among_first (next_entry b n e) xs)
+
+  fired : (w : World) (h : Holds b m s0 w) (v : World) (x : Placed) → Forward b m h.kept.spine (IsKnown w.opened (x ∷ w.fires) w.takes) w v → Holds b m s0 (record v { fires = x ∷ v.fires })
+  fired w h v x f = let o = f.onward in record {
+    kept = refit_kept b m v o.kept v.flight o.kept.flight v.cuts v.hold v.takes v.opened v.all_started (x ∷ v.fires);
+    since = grows_both s0 h.kept.spine o.kept.spine h.since o.grows;
+    count = o.count ∙ h.count;
+    took = subst (λ (xs : List Placed). All (Took b o.kept.spine (record v { fires = x ∷ v.fires })) xs) (sym o.takes)
+        (All-weaker (Took b h.kept.spine w) (Took b o.kept.spine (record v { fires = x ∷ v.fires })) (λ y t. let u = took_on b m h.kept.spine w v o y t in record { led = u.led; within = u.within }) w.takes h.took);
+    differ = differs_on b m s0 w v h o;
+    longer = λ e. let y = f.within (sym f.started ∙ e) (h.longer (sym f.started ∙ e)) in record { nodes = y.nodes; flight = y.flight };
+    sourced = let y = known_same b v w.opened v.opened (x ∷ w.fires) (x ∷ v.fires) w.takes v.takes f.opened (ap (λ (xs : List Placed). x ∷ xs) f.fires) o.takes
+        (f.sourced (sourced_weaker (IsKnown w.opened w.fires w.takes) (IsKnown w.opened (x ∷ w.fires) w.takes) (fires_more w.opened x w.fires w.takes) b w h.sourced)) in
+        record { nodes = y.nodes; flight = y.flight; history = y.history };
+  }
+
   pub kept_command : (w : World) (h : Holds b m s0 w) (place : ℕ) (e : List ℕ) (stop : Option ℕ) → may_append b (node_at b w (suc place)) ≡ true
       → Holds b m s0 (let v = own_event b m (suc place) (CommandEvent e) stop w in record v { takes = next_entry b (node_at b w (suc place)) e ∷ v.takes })
   kept_command w h place e stop q =
@@ -288,13 +338,23 @@ module _ (b : Start) (m : Machine) (s0 : Spine) (fit : IsFit b m) where
       let inside = up_inside b w place y.0 in
       let lead = leader_role n.role z.0 in
       let v = own_event b m (suc place) (CommandEvent e) stop w in
-      taken w h place inside lead e v (kept_own b m fit w h.kept place inside (CommandEvent e) lead (own_steps (suc place) n.base n.base n.applied (core_of b m (suc place) n) e (past w h place inside)) stop)
+      let x = next_entry b n e in
+      taken w h place inside lead e v
+      (kept_own b m fit (IsKnown w.opened w.fires (x ∷ w.takes)) (noop_known w.opened w.fires (x ∷ w.takes)) w h.kept place inside (CommandEvent e) lead
+      (own_steps (suc place) n.base n.base n.applied (core_of b m (suc place) n) e (past w h place inside)) (inr (inr (own_among w h place inside e w.takes))) stop)
       (after_entry w h place inside e stop)
 
-  pub kept_fire : (w : World) (h : Holds b m s0 w) (place : ℕ) (e : List ℕ) (stop : Option ℕ) → may_append b (node_at b w (suc place)) ≡ true → Holds b m s0 (own_event b m (suc place) (FireEvent e) stop w)
+  -- a fire joins those that were appended
+  pub kept_fire : (w : World) (h : Holds b m s0 w) (place : ℕ) (e : List ℕ) (stop : Option ℕ) → may_append b (node_at b w (suc place)) ≡ true
+      → Holds b m s0 (let v = own_event b m (suc place) (FireEvent e) stop w in record v { fires = next_entry b (node_at b w (suc place)) e ∷ v.fires })
   kept_fire w h place e stop q =
       let n = node_at b w (suc place) in
       let y = and_parts n.up (is_leader n.role && nat_lt (last_of b n) MAX_INDEX) q in
       let z = and_parts (is_leader n.role) (nat_lt (last_of b n) MAX_INDEX) y.1 in
       let inside = up_inside b w place y.0 in
-      holds_own w h place inside (FireEvent e) (leader_role n.role z.0) (fire_steps (suc place) n.base n.base n.applied (core_of b m (suc place) n) e (past w h place inside)) stop
+      let x = next_entry b n e in
+      let v = own_event b m (suc place) (FireEvent e) stop w in
+      let f : Forward b m h.kept.spine (IsKnown w.opened (x ∷ w.fires) w.takes) w v =
+      kept_own b m fit (IsKnown w.opened (x ∷ w.fires) w.takes) (noop_known w.opened (x ∷ w.fires) w.takes) w h.kept place inside (FireEvent e) (leader_role n.role z.0)
+      (fire_steps (suc place) n.base n.base n.applied (core_of b m (suc place) n) e (past w h place inside)) (inr (inl (own_among w h place inside e w.fires))) stop in
+      fired w h v x f

@@ -25,9 +25,11 @@ use Rattle.raft_claims.specs.Claims.{Claim}
 use Rattle.raft_claims.specs.Tied.{Tied}
 use Rattle.raft_claims.proofs.Claims.{claim_stays}
 use Rattle.raft_claims.proofs.Turns.{tied_stays}
-use Rattle.cluster_world.specs.World.{Machine, Held, Node, World, nobody, core_of, last_of, node_at}
+use Rattle.cluster_world.specs.World.{Machine, Held, Node, Placed, World, nobody, log_of, core_of, last_of, node_at}
 use Rattle.cluster_world.specs.Events.{with_node}
+use Rattle.cluster_world.specs.Facts.{entry_of}
 use Rattle.cluster_world.proofs.Steps.{ChunkWithin}
+use Rattle.cluster_world.proofs.Origins.{KnownLog, KnownBody}
 use Rattle.cluster_world.proofs.Roles.{LeadsHow}
 
 -- the bytes held of a snapshot are no more than it has; what it stands for is decided
@@ -189,10 +191,19 @@ pub record Within (b : Start) (w : World) : Type 0 where
   pub nodes : (place : ℕ) → place < length w.nodes → (node_at b w (suc place)).applied ≤ w.placed
   pub flight : All (λ x. ChunkWithin w.placed x.body) w.flight
 
--- the same, and the history stays long enough
-pub record Forward (b : Start) (m : Machine) (s : Spine) (w w' : World) : Type 0 where
+-- every entry of a log, of a message in flight, and of the history past what it began with is known
+pub record Sourced (K : Placed → Type 0) (b : Start) (w : World) : Type 0 where
+  pub nodes : (place : ℕ) → place < length w.nodes → KnownLog K (log_of b (node_at b w (suc place)))
+  pub flight : All (λ x. KnownBody K x.body) w.flight
+  pub history : (place : ℕ) → w.opened_at ≤ b.base + place → place < length w.history → K (entry_of b w.history place)
+
+-- the same, and the history stays long enough, and brings nothing that is not known
+pub record Forward (b : Start) (m : Machine) (s : Spine) (K : Placed → Type 0) (w w' : World) : Type 0 where
   pub onward : Onward b m s w w'
+  pub opened : w'.opened ≡ w.opened
+  pub fires : w'.fires ≡ w.fires
   pub started : w'.all_started ≡ w.all_started
+  pub sourced : Sourced K b w → Sourced K b w'
   pub within : w.all_started ≡ true → Within b w → Within b w'
 
 pub within_put : (b : Start) (w : World) (place : ℕ) (n' : Node) → place < length w.nodes → Within b w → n'.applied ≤ w.placed → Within b (with_node (suc place) n' w)
@@ -206,11 +217,23 @@ within_put b w place n' inside x le = record {
   flight = x.flight;
 }
 
+pub sourced_put : (K : Placed → Type 0) (b : Start) (w : World) (place : ℕ) (n' : Node) → place < length w.nodes → Sourced K b w → KnownLog K (log_of b n') → Sourced K b (with_node (suc place) n' w)
+sourced_put K b w place n' inside x kl = record {
+  nodes = λ q lt. ⊎_elim
+      (λ (e : q ≡ place). subst (λ (k : ℕ). KnownLog K (log_of b (node_at b (with_node (suc place) n' w) (suc k)))) (sym e)
+      (subst (λ (n : Node). KnownLog K (log_of b n)) (sym (with_node_same b w place n' inside)) kl))
+      (λ (d : q ≢ place). let l = length_set w.nodes place n' in
+      subst (λ (n : Node). KnownLog K (log_of b n)) (sym (with_node_other b w place n' (suc q) (λ e. d (let z : q ≡ place = omega (arith, e) in z)))) (x.nodes q (omega (arith, lt, l))))
+      (cases_eq q place);
+  flight = x.flight;
+  history = x.history;
+}
+
 pub onward_same : (b : Start) (m : Machine) (w : World) (h : Kept b m w) → Onward b m h.spine w w
 onward_same b m w h = record { kept = h; grows = grows_same h.spine; count = refl; further = λ k. further_same b h.spine (node_at b w k); takes = refl }
 
-pub forward_same : (b : Start) (m : Machine) (w : World) (h : Kept b m w) → Forward b m h.spine w w
-forward_same b m w h = record { onward = onward_same b m w h; started = refl; within = λ e x. x }
+pub forward_same : (b : Start) (m : Machine) (K : Placed → Type 0) (w : World) (h : Kept b m w) → Forward b m h.spine K w w
+forward_same b m K w h = record { onward = onward_same b m w h; opened = refl; fires = refl; started = refl; within = λ e x. x; sourced = λ x. x }
 
 -- what becomes of a node by its own moves
 pub record Becomes (b : Start) (m : Machine) (s : Spine) (k : ℕ) (n n' : Node) : Type 0 where

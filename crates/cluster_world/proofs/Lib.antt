@@ -1,7 +1,9 @@
 pub mod Steps
 pub mod Roles
+pub mod Origins
 pub mod Keeping
 pub mod NodeEvents
+pub mod Sourcing
 pub mod Holding
 pub mod Worlds
 pub mod Happens

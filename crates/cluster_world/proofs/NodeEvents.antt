@@ -194,7 +194,7 @@ module _ (b : Start) (m : Machine) (s : Spine) (k : ℕ) (n : Node) (ok : NodeKe
           (kept_parts j items)
 
 -- messages join those in flight
-sent_all : (P : Message → Type 0) (flight xs : List Message) → All P flight → All P xs → All P (sent flight xs)
+pub sent_all : (P : Message → Type 0) (flight xs : List Message) → All P flight → All P xs → All P (sent flight xs)
 sent_all P flight [] f h = f
 sent_all P flight (x ∷ xs) f h = sent_all P (cond (nat_lt (length flight) MAX_IN_FLIGHT) (flight ++ x ∷ []) flight) xs (chosen (nat_lt (length flight) MAX_IN_FLIGHT)) (All-tail P x xs h)
   where
@@ -290,7 +290,7 @@ kept_after b m w h place inside n lo at n' x ms said =
     (w.history ++ take (n'.applied - w.placed) (drop (w.placed - b.base) n'.whole)) ms said
     (history_grows b m h1.spine (reached_sound b h1.spine h1.reached) (with_node (suc place) n' w) h1.history (suc place) n n' x.kept lo at)
 
-both : {g k : Bool} → g ≡ true → k ≡ true → (g && k) ≡ true
+pub both : {g k : Bool} → g ≡ true → k ≡ true → (g && k) ≡ true
 both {g} {k} p q = ap (λ (x : Bool). x && k) p ∙ q
 
 -- a core's own chunks stand for no more than its base

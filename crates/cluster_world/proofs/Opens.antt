@@ -1,6 +1,6 @@
 -- The opening of a world.
-use Rattle.std.proofs.Common.{◌≡◌, ◌≢◌, ℕ, zero, suc, ◌-◌, ◌<◌, ◌≤◌, max, Bool, true, false, cond, ◌&&◌, nat_lt, nat_le, ◌==◌, All, List, [], ◌∷◌, ◌++◌, length, take, drop, get_or, map, Option, Some, None, refl, sym, ap, ◌∙◌, subst, arith, ◌⊎◌, inl, inr, ⊎_elim, length-take, length-take-le, append_assoc}
-use Rattle.std.proofs.lemmas.Bool.{cases_lt, cases_eq, eqb-true, eq-eqb, and_parts}
+use Rattle.std.proofs.Common.{◌≡◌, ◌≢◌, ℕ, zero, suc, ◌+◌, ◌-◌, ◌<◌, ◌≤◌, max, Bool, true, false, cond, ◌&&◌, nat_lt, nat_le, ◌==◌, All, List, [], ◌∷◌, ◌++◌, length, take, drop, get_or, map, Option, Some, None, refl, sym, ap, ◌∙◌, subst, arith, ◌⊎◌, inl, inr, ⊎_elim, length-take, length-take-le, append_assoc}
+use Rattle.std.proofs.lemmas.Bool.{cases_lt, cases_eq, eqb-true, eq-eqb, le-leb, lt-ltb, and_parts}
 use Rattle.std.proofs.lemmas.List.Elements.{All-nil, All-weaker}
 use Rattle.raft_types.specs.declared.message.Message.{Message}
 use Rattle.raft_types.specs.declared.entry.LogEntry.{LogEntry}
@@ -15,12 +15,15 @@ use Rattle.raft_spine.specs.Spine.{Spine}
 use Rattle.raft_claims.proofs.Stores.{tied_stops}
 use Rattle.cluster_world.specs.World.{Machine, Node, World, nodes_of, nobody, log_of, core_of, refreshed, node_at}
 use Rattle.cluster_world.specs.Node.{applied_before, ended, is_due, tidied, tidied_if_due}
-use Rattle.cluster_world.specs.Events.{Opening, with_node, own_event, tidies, tidies_if_due, starts, fails_to_start, opening_of, all_start, greatest_term, greatest_base, front_at, all_up, all_raise, opens}
+use Rattle.cluster_world.specs.Events.{Opening, with_node, own_event, tidies, tidies_if_due, starts, fails_to_start, opening_of, all_start, greatest_term, greatest_base, front_at, all_up, all_raise, closed, with_front, opens}
 use Rattle.cluster_world.specs.Facts.{IsFit}
 use Rattle.cluster_world.proofs.Steps.{ChunkWithin, raise_steps}
 use Rattle.cluster_world.proofs.Keeping.{NodeKept, InFlight, Kept, up_inside, with_node_same, with_node_other}
 use Rattle.cluster_world.proofs.Worlds.{refreshed_kept}
-use Rattle.cluster_world.proofs.Holding.{Took, Holds}
+use Rattle.cluster_world.proofs.Holding.{Took, IsKnown, Holds}
+use Rattle.cluster_world.proofs.Origins.{AllFrom, from_each, KnownLog, KnownBody}
+use Rattle.raft_types.specs.Log.{LogParts, nothing, last_index, log_at}
+use Rattle.cluster_world.proofs.NodeEvents.{both}
 use Rattle.cluster_world.proofs.Happens.{holds_own, kept_starts, kept_fails, kept_if_due, set_past}
 
 -- all nodes are followers
@@ -136,7 +139,7 @@ module _ (b : Start) (m : Machine) (s0 : Spine) (fit : IsFit b m) (openings : Li
           let inside = up_inside b w place (and_parts n.up (nat_lt n.term term) e).0 in
           let v = own_event b m (suc place) (RaiseEvent term) (opening_of openings (suc place)).raise_stop w in
           let k : Holds b m s0 v = holds_own b m s0 fit w o.kept place inside (RaiseEvent term) (o.follow (suc place))
-          (raise_steps (suc place) n.base n.base n.applied (core_of b m (suc place) n) term (record { same = refl; base = omega arith; below = omega arith; commit = (o.kept.kept.nodes place inside).to_commit })) (opening_of openings (suc place)).raise_stop in
+          (raise_steps (suc place) n.base n.base n.applied (core_of b m (suc place) n) term (record { same = refl; base = omega arith; below = omega arith; commit = (o.kept.kept.nodes place inside).to_commit })) tt (opening_of openings (suc place)).raise_stop in
           record {
             kept = kept_if_due b m s0 v k (suc place) (opening_of openings (suc place)).tidy_stop;
             follow = if_due_follow b v (raise_follow w o.follow place (opening_of openings (suc place)).raise_stop) (suc place) (opening_of openings (suc place)).tidy_stop;
@@ -217,8 +220,8 @@ module _ (b : Start) (m : Machine) (v : World) (h : Kept b m v) where
           (λ (x : greatest_base b v ks ≤ (node_at b v k).base). inr (inl (e, omega arith)))
           (cases_lt (node_at b v k).base (greatest_base b v ks))
 
-  abbrev history_opens : (ks : List ℕ) (all : Bool) → Kept b m (record v { placed = greatest_base b v ks; history = front_at b v (greatest_base b v ks) ks; all_started = all })
-  history_opens ks all =
+  abbrev history_opens : (ks : List ℕ) → Kept b m (with_front b ks v)
+  history_opens ks =
       let f = front_of (greatest_base b v ks) ks in
       let fs = f.short in
       record {
@@ -237,12 +240,12 @@ module _ (b : Start) (m : Machine) (v : World) (h : Kept b m v) where
       }
 
 -- before the nodes start
-get_map : (f : Node → Node) (xs : List Node) (i : ℕ) (d : Node) → i < length xs → get_or (map f xs) i d ≡ f (get_or xs i d)
-get_map f [] i d h = absurd (omega arith)
-get_map f (x ∷ xs) zero d h = refl
-get_map f (x ∷ xs) (suc i) d h = get_map f xs i d (omega arith)
+get_map : {A : Type 0} (f : Node → A) (xs : List Node) (i : ℕ) (d : A) (e : Node) → i < length xs → get_or (map f xs) i d ≡ f (get_or xs i e)
+get_map f [] i d e h = absurd (omega arith)
+get_map f (x ∷ xs) zero d e h = refl
+get_map f (x ∷ xs) (suc i) d e h = get_map f xs i d e (omega arith)
 
-length_map : (f : Node → Node) (xs : List Node) → length (map f xs) ≡ length xs
+length_map : {A : Type 0} (f : Node → A) (xs : List Node) → length (map f xs) ≡ length xs
 length_map f [] = refl
 length_map f (x ∷ xs) = ap suc (length_map f xs)
 
@@ -251,38 +254,49 @@ all_fresh b [] i = (refl, refl)
 all_fresh b (x ∷ xs) zero = (refl, refl)
 all_fresh b (x ∷ xs) (suc i) = all_fresh b xs i
 
--- every node stands still
-abbrev pub still : Start → World → World
-still b w = record w { nodes = map (refreshed b false) w.nodes; flight = []; cuts = []; hold = false; takes = []; fires = []; opened = map (log_of b) w.nodes }
+-- an entry above the base of a log
+stored_at : (l : LogParts) (j : ℕ) → j < length l.entries → log_at l (suc l.base + j) ≡ Some (get_or l.entries j nothing)
+stored_at l j lt =
+    ap (λ (g : Bool). cond g (Some (get_or l.entries (suc l.base + j - (l.base + 1)) nothing)) None) (both (lt-ltb l.base (suc l.base + j) (omega arith)) (le-leb (suc l.base + j) (last_index l) (omega (arith, lt))))
+    ∙ ap (λ (i : ℕ). Some (get_or l.entries i nothing)) (let z : suc l.base + j - (l.base + 1) ≡ j = omega arith in z)
 
-stands_still : (b : Start) (m : Machine) (s0 : Spine) (w : World) → Holds b m s0 w → Starting b m s0 (still b w)
+-- all that lies above the base of one of these logs was stored
+pub was_stored : (opened : List LogParts) (store : ℕ) (l : LogParts) → store < length opened → ((d : LogParts) → get_or opened store d ≡ l) → AllFrom (IsKnown opened [] []) (suc l.base) l.entries
+was_stored opened store l there is =
+    from_each (IsKnown opened [] []) (suc l.base) l.entries
+    (λ j lt. inl (inl (record { store = store; there = there; is = λ d. ap (λ (x : LogParts). log_at x (suc l.base + j)) (is d) ∙ stored_at l j lt })))
+
+-- every node stands still
+stands_still : (b : Start) (m : Machine) (s0 : Spine) (w : World) → Holds b m s0 w → Starting b m s0 (closed b w)
 stands_still b m s0 w h = record {
   kept = record {
     kept = record {
       spine = h.kept.spine;
       reached = h.kept.reached;
       nodes = λ q lt. let l = length_map (refreshed b false) w.nodes in let inside : q < length w.nodes = omega (arith, l, lt) in
-          subst (λ (n : Node). NodeKept b m h.kept.spine (suc q) n) (sym (get_map (refreshed b false) w.nodes q (nobody b) inside))
+          subst (λ (n : Node). NodeKept b m h.kept.spine (suc q) n) (sym (get_map (refreshed b false) w.nodes q (nobody b) (nobody b) inside))
           (refreshed_kept b m h.kept.spine (suc q) false (node_at b w (suc q)) (h.kept.nodes q inside));
-      flight = All-nil (InFlight b m h.kept.spine (still b w));
-      history = record { bound = h.kept.history.bound; decided = h.kept.history.decided; long = h.kept.history.long };
+      flight = All-nil (InFlight b m h.kept.spine (closed b w));
+      history = record { bound = 0; decided = record { how = inl refl }; long = inl (omega arith) };
     };
     since = h.since;
     count = length_map (refreshed b false) w.nodes ∙ h.count;
-    took = All-nil (Took b h.kept.spine (still b w));
+    took = All-nil (Took b h.kept.spine (closed b w));
     differ = λ i j d li lj ei et. absurd (omega (arith, li));
-    longer = λ e. let x = h.longer e in record {
-      nodes = λ q lt. let l = length_map (refreshed b false) w.nodes in let inside : q < length w.nodes = omega (arith, l, lt) in
-          let y = x.nodes q inside in let fb = (h.kept.nodes q inside).from_base in
-          subst (λ (n : Node). n.applied ≤ w.placed) (sym (get_map (refreshed b false) w.nodes q (nobody b) inside)) (let r : (node_at b w (suc q)).base ≤ w.placed = omega (arith, y, fb) in r);
-      flight = All-nil (λ (x : Message). ChunkWithin w.placed x.body);
+    longer = λ e. absurd (let q : false ≡ true = e in cc);
+    sourced = record {
+      nodes = λ q lt. let l = length_map (refreshed b false) w.nodes in let inside : q < length w.nodes = omega (arith, l, lt) in let k = length_map (log_of b) w.nodes in
+          subst (λ (n : Node). KnownLog (IsKnown (map (log_of b) w.nodes) [] []) (log_of b n)) (sym (get_map (refreshed b false) w.nodes q (nobody b) (nobody b) inside))
+          (was_stored (map (log_of b) w.nodes) q (log_of b (node_at b w (suc q))) (omega (arith, inside, k)) (λ d. get_map (log_of b) w.nodes q d (nobody b) inside));
+      flight = All-nil (λ (x : Message). KnownBody (IsKnown (map (log_of b) w.nodes) [] []) x.body);
+      history = λ place at lt. absurd (omega (arith, lt));
     };
   };
   fresh = fresh;
   empty = refl;
 }
   where
-    fresh : (k : ℕ) → IsFresh (node_at b (still b w) k)
+    fresh : (k : ℕ) → IsFresh (node_at b (closed b w) k)
     fresh zero = (refl, refl)
     fresh (suc q) = all_fresh b w.nodes q
 
@@ -309,13 +323,13 @@ base_greatest b v (x ∷ xs) ys k e =
 
 -- the history of an opening
 history_holds : (b : Start) (m : Machine) (s0 : Spine) (v : World) → Starting b m s0 v
-    → Holds b m s0 (record v { placed = greatest_base b v (ids (nodes_of b)); history = front_at b v (greatest_base b v (ids (nodes_of b))) (ids (nodes_of b)); all_started = all_up b v (ids (nodes_of b)) })
+    → Holds b m s0 (with_front b (ids (nodes_of b)) v)
 history_holds b m s0 v o =
     let h = o.kept in
     let ks = ids (nodes_of b) in
-    let u : World = record v { placed = greatest_base b v ks; history = front_at b v (greatest_base b v ks) ks; all_started = all_up b v ks } in
+    let u : World = with_front b ks v in
     record {
-      kept = history_opens b m v h.kept ks (all_up b v ks);
+      kept = history_opens b m v h.kept ks;
       since = h.since;
       count = h.count;
       took = All-weaker (Took b h.kept.spine v) (Took b h.kept.spine u) (λ x t. record { led = t.led; within = t.within }) v.takes h.took;
@@ -330,14 +344,19 @@ history_holds b m s0 v o =
             (let r : (node_at b v (suc place)).applied ≤ greatest_base b v ks = omega (arith, z, g, f) in r);
         flight = subst (λ (xs : List Message). All (λ (x : Message). ChunkWithin (greatest_base b v ks) x.body) xs) (sym o.empty) (All-nil (λ (x : Message). ChunkWithin (greatest_base b v ks) x.body));
       };
+      sourced = let x = h.sourced in record {
+        nodes = x.nodes;
+        flight = x.flight;
+        history = λ place at lt. absurd (let f = (front_of b m v h.kept (greatest_base b v ks) ks).short in omega (arith, at, lt, f));
+      };
     }
 
 -- the opening
 pub kept_opens : (b : Start) (m : Machine) (s0 : Spine) → IsFit b m → (openings : List Opening) (w : World) → Holds b m s0 w → Holds b m s0 (opens b m openings w)
 kept_opens b m s0 fit openings w h =
     let all = ids (nodes_of b) in
-    let v = all_start b openings all (still b w) in
-    let o : Starting b m s0 v = all_starts b m s0 openings all (still b w) (stands_still b m s0 w h) in
-    let u : World = record v { placed = greatest_base b v all; history = front_at b v (greatest_base b v all) all; all_started = all_up b v all } in
+    let v = all_start b openings all (closed b w) in
+    let o : Starting b m s0 v = all_starts b m s0 openings all (closed b w) (stands_still b m s0 w h) in
+    let u : World = with_front b all v in
     let p : Opens b m s0 u = record { kept = history_holds b m s0 v o; follow = λ k. (o.fresh k).0 } in
     (all_raises b m s0 fit openings (greatest_term b v all) all u p).kept

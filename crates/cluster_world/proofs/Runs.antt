@@ -1,6 +1,7 @@
 -- Runs, and the facts.
-use Rattle.std.proofs.Common.{◌≡◌, ◌≢◌, ℕ, zero, suc, ◌-◌, ◌<◌, Bool, true, false, cond, ◌&&◌, ◌==◌, List, [], ◌∷◌, ◌++◌, length, take, drop, get_or, replicate, refl, sym, ap, ◌∙◌, subst, arith, ◌+◌, ◌≤◌, inl, ⊎_elim, take-take, take_all, length-take-le}
+use Rattle.std.proofs.Common.{◌≡◌, ◌≢◌, ℕ, zero, suc, ◌-◌, ◌<◌, Bool, true, false, cond, ◌&&◌, ◌==◌, List, [], ◌∷◌, ◌++◌, length, take, drop, get_or, replicate, refl, sym, ap, ◌∙◌, subst, arith, ◌+◌, ◌≤◌, inl, ⊎_elim, take-take, take_all, length-take-le, ◌⊎◌, inr}
 use Rattle.std.proofs.lemmas.Bool.{and_parts}
+use Rattle.std.proofs.lemmas.List.{length-replicate}
 use Rattle.std.proofs.lemmas.List.Elements.{All-nil, All-drop}
 use Rattle.raft_types.specs.declared.entry.LogEntry.{LogEntry}
 use Rattle.raft_spine.specs.Logs.{IsFront}
@@ -18,14 +19,16 @@ use Rattle.raft_types.specs.Log.{LogParts, compacted}
 use Rattle.raft_claims.specs.Tied.{whole_log, StoreTied}
 use Rattle.raft_claims.proofs.Stores.{store_starts}
 use Rattle.raft_claims.proofs.Lawful.{begins_tied}
-use Rattle.cluster_world.specs.World.{Machine, Node, World, nodes_of, nobody, fresh_node, last_of, node_at, begin_world}
+use Rattle.cluster_world.specs.World.{Machine, Node, Placed, World, nodes_of, nobody, log_of, fresh_node, last_of, node_at, begin_world}
 use Rattle.cluster_world.specs.Events.{Event, Open, StartNode, FailStart, StopNode, Timeout, Beat, Command, Fire, Deliver, Drop, Tidy, Cut, Mend, Hold, Flow, own_event, may_append, next_entry, starts, fails_to_start, mended, happens, run}
 use Rattle.raft_types.specs.declared.event.CoreEvent.TheVariants.{Command as CommandEvent, Fire as FireEvent}
-use Rattle.cluster_world.specs.Facts.{IsFit, Runs, NoTwoLead, WholeLogsMatch, OneHistory, LeadersHave, LeadsNow, LedOnce, HistoryIsLonger, WorldFacts, applied_of, committed_of}
+use Rattle.cluster_world.specs.Facts.{IsFit, Runs, NoTwoLead, WholeLogsMatch, OneHistory, LeadersHave, LeadsNow, LedOnce, HistoryIsLonger, HistoryComesFrom, WasStored, IsAmong, entry_of, WorldFacts, applied_of, committed_of}
 use Rattle.cluster_world.proofs.Keeping.{NodeKept, InFlight, Kept, up_inside}
 use Rattle.cluster_world.proofs.Happens.{kept_starts, kept_fails, kept_stops, kept_if_due, refit, kept_drops, kept_delivers, kept_timeout, kept_beat, kept_command, kept_fire}
-use Rattle.cluster_world.proofs.Holding.{Took, Holds}
-use Rattle.cluster_world.proofs.Opens.{kept_opens}
+use Rattle.cluster_world.proofs.Holding.{Took, IsKnown, Holds}
+use Rattle.cluster_world.proofs.Origins.{KnownLog, KnownBody}
+use Rattle.raft_types.specs.declared.limits.TheConstants.{NOOP}
+use Rattle.cluster_world.proofs.Opens.{was_stored, kept_opens}
 
 -- a log compacted at its base is the log
 at_base : (b : Start) (l : List LogEntry) → compacted (whole_log b l) b.base ≡ whole_log b l
@@ -60,19 +63,16 @@ module _ (b : Start) (m : Machine) (s0 : Spine) (fit : IsFit b m) where
       answer : (g : Bool) → (may_append b (node_at b w (suc place)) && ((node_at b w (suc place)).applied == last_of b (node_at b w (suc place)))) ≡ g
           → Holds b m s0 (cond g (let v = own_event b m (suc place) (FireEvent entry) stop w in record v { fires = next_entry b (node_at b w (suc place)) entry ∷ v.fires }) w)
       answer false e = h
-      answer true e =
-          let v = own_event b m (suc place) (FireEvent entry) stop w in
-          let n = node_at b w (suc place) in
-          let k : Holds b m s0 v = kept_fire b m s0 fit w h place entry stop (and_parts (may_append b n) (n.applied == last_of b n) e).0 in
-          refit b m s0 v k v.flight k.kept.flight (λ x. x) v.cuts v.hold (next_entry b n entry ∷ v.fires)
+      answer true e = kept_fire b m s0 fit w h place entry stop (and_parts (may_append b (node_at b w (suc place))) ((node_at b w (suc place)).applied == last_of b (node_at b w (suc place))) e).0
   kept_happens w h (Deliver place again stop) = kept_delivers b m s0 fit w h place again stop (drop place w.flight) (All-drop (InFlight b m h.kept.spine w) place w.flight h.kept.flight)
       (λ e. All-drop (λ (x : Message). ChunkWithin w.placed x.body) place w.flight (h.longer e).flight)
+      (All-drop (λ (x : Message). KnownBody (IsKnown w.opened w.fires w.takes) x.body) place w.flight h.sourced.flight)
   kept_happens w h (Drop place) = kept_drops b m s0 w h place
   kept_happens w h (Tidy k stop) = kept_if_due b m s0 w h k stop
-  kept_happens w h (Cut j k) = refit b m s0 w h w.flight h.kept.flight (λ x. x) ((j, k) ∷ w.cuts) w.hold w.fires
-  kept_happens w h (Mend j k) = refit b m s0 w h w.flight h.kept.flight (λ x. x) (mended w.cuts j k) w.hold w.fires
-  kept_happens w h Hold = refit b m s0 w h w.flight h.kept.flight (λ x. x) w.cuts true w.fires
-  kept_happens w h Flow = refit b m s0 w h w.flight h.kept.flight (λ x. x) w.cuts false w.fires
+  kept_happens w h (Cut j k) = refit b m s0 w h w.flight (λ P f. f) ((j, k) ∷ w.cuts) w.hold
+  kept_happens w h (Mend j k) = refit b m s0 w h w.flight (λ P f. f) (mended w.cuts j k) w.hold
+  kept_happens w h Hold = refit b m s0 w h w.flight (λ P f. f) w.cuts true
+  kept_happens w h Flow = refit b m s0 w h w.flight (λ P f. f) w.cuts false
 
   pub kept_run : (w : World) → Holds b m s0 w → (es : List Event) → Holds b m s0 (run b m w es)
   kept_run w h [] = h
@@ -110,13 +110,14 @@ running : (b : Start) (m : Machine) (w : World) (h : Kept b m w) (k : ℕ) → R
 running b m w h zero r = absurd (let q : false ≡ true = r in cc)
 running b m w h (suc place) r = h.nodes place (up_inside b w place r)
 
-length_replicate : (k : ℕ) (n : Node) → length (replicate k n) ≡ k
-length_replicate zero n = refl
-length_replicate (suc k) n = ap suc (length_replicate k n)
+same_logs : (k i : ℕ) (l d : LogParts) → i < k → get_or (replicate k l) i d ≡ l
+same_logs zero i l d h = absurd (omega (arith, h))
+same_logs (suc k) zero l d h = refl
+same_logs (suc k) (suc i) l d h = same_logs k i l d (omega (arith, h))
 
 -- what holds since this world
 since_now : (b : Start) (m : Machine) (s0 : Spine) (w : World) (h : Holds b m s0 w) → Holds b m h.kept.spine w
-since_now b m s0 w h = record { kept = h.kept; since = grows_same h.kept.spine; count = h.count; took = h.took; differ = h.differ; longer = h.longer }
+since_now b m s0 w h = record { kept = h.kept; since = grows_same h.kept.spine; count = h.count; took = h.took; differ = h.differ; longer = h.longer; sourced = h.sourced }
 
 run_both : (b : Start) (m : Machine) (w : World) (es es2 : List Event) → run b m w (es ++ es2) ≡ run b m (run b m w es) es2
 run_both b m w [] es2 = refl
@@ -127,10 +128,21 @@ module _ (b : Start) (m : Machine) (fit : IsFit b m) (count : ℕ) where
   holds_begin = record {
     kept = kept_begin b m fit count;
     since = grows_same (begin b);
-    count = length_replicate (nodes_of b) (fresh_node b false b.term b.vote b.log b.base count);
+    count = length-replicate (nodes_of b) (fresh_node b false b.term b.vote b.log b.base count);
     took = All-nil (Took b (begin b) (begin_world b count));
     differ = λ i j d li lj ei et. absurd (omega (arith, li));
     longer = λ e. absurd (let q : false ≡ true = e in cc);
+    sourced = record {
+      nodes = λ place inside.
+          let l = length-replicate (nodes_of b) (fresh_node b false b.term b.vote b.log b.base count) in
+          let k = length-replicate (nodes_of b) (whole_log b b.log) in
+          subst (λ (n : Node). KnownLog (IsKnown (replicate (nodes_of b) (whole_log b b.log)) [] []) (log_of b n))
+          (sym (same_nodes b m fit (nodes_of b) place (fresh_node b false b.term b.vote b.log b.base count) (nobody b) inside))
+          (subst (λ (x : LogParts). KnownLog (IsKnown (replicate (nodes_of b) (whole_log b b.log)) [] []) x) (sym (at_base b b.log))
+          (was_stored (replicate (nodes_of b) (whole_log b b.log)) place (whole_log b b.log) (omega (arith, inside, l, k)) (λ d. same_logs (nodes_of b) place (whole_log b b.log) d (omega (arith, inside, l)))));
+      flight = All-nil (λ (x : Message). KnownBody (IsKnown (replicate (nodes_of b) (whole_log b b.log)) [] []) x.body);
+      history = λ place at lt. absurd (omega (arith, lt));
+    };
   }
 
   pub holds_run : (es : List Event) → Holds b m (begin b) (run b m (begin_world b count) es)
@@ -170,6 +182,19 @@ history_longer b m s0 w h one e k r = ⊎_elim
     applied_placed : (k : ℕ) → Runs b w k → (node_at b w k).applied ≤ w.placed
     applied_placed zero r = absurd (let q : false ≡ true = r in cc)
     applied_placed (suc place) r = (h.longer e).nodes place (up_inside b w place r)
+
+-- where the entries of the history come from: of those that were taken none other has the index and the term
+pub history_from : (b : Start) (m : Machine) (s0 : Spine) (w : World) → Holds b m s0 w → HistoryComesFrom b w
+history_from b m s0 w h place at lt = ⊎_elim
+    (λ (a : WasStored w.opened (entry_of b w.history place) ⊎ ((entry_of b w.history place).entry ≡ NOOP ∷ [])). inl a)
+    (λ (a : IsAmong w.fires (entry_of b w.history place) ⊎ IsAmong w.takes (entry_of b w.history place)). inr (⊎_elim
+    (λ (f : IsAmong w.fires (entry_of b w.history place)). inl f)
+    (λ (t : IsAmong w.takes (entry_of b w.history place)). inr (record {
+      among = t;
+      only = λ i d li ei et. h.differ i t.place d li t.there (ei ∙ sym (ap (λ (x : Placed). x.index) (t.is d))) (et ∙ sym (ap (λ (x : Placed). x.term) (t.is d)));
+    }))
+    a))
+    (h.sourced.history place at lt)
 
 -- the facts of a world
 module _ (b : Start) (m : Machine) (w : World) (h : Kept b m w) where

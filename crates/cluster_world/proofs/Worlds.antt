@@ -1,5 +1,5 @@
 -- Every event of a world keeps what holds of it.
-use Rattle.std.proofs.Common.{◌≡◌, ℕ, zero, suc, ◌+◌, ◌-◌, ◌<◌, ◌≤◌, min, max, nat_lt, nat_le, ◌++◌, drop, Bool, true, false, not, cond, ◌&&◌, ◌==◌, List, [], length, take, Option, Some, None, refl, sym, ap, ◌∙◌, subst, arith, ◌⊎◌, inl, inr, ⊎_elim, take_all, length-take-le}
+use Rattle.std.proofs.Common.{◌≡◌, ℕ, zero, suc, ◌+◌, ◌-◌, ◌<◌, ◌≤◌, min, max, nat_lt, nat_le, ◌++◌, drop, Bool, true, false, not, cond, ◌&&◌, ◌==◌, List, [], ◌∷◌, length, take, Option, Some, None, refl, sym, ap, ◌∙◌, subst, arith, ◌⊎◌, inl, inr, ⊎_elim, take_all, length-take-le}
 use Rattle.std.proofs.lemmas.Bool.{eqb-true, and_parts}
 use Rattle.raft_types.specs.declared.entry.LogEntry.{LogEntry}
 use Rattle.raft_types.specs.declared.limits.TheConstants.{MAX_CHUNK}
@@ -31,6 +31,11 @@ use Rattle.cluster_world.specs.Node.{needs, with_chunk, arrived, told_of, applie
 use Rattle.cluster_world.specs.Events.{with_node, own_event, node_event, is_cut, arrives}
 use Rattle.cluster_world.specs.Facts.{IsFit}
 use Rattle.cluster_world.proofs.Steps.{ChunkWithin, Steps, heard_steps}
+use Rattle.cluster_world.proofs.Origins.{KnownBody, KnownEvent}
+use Rattle.cluster_world.proofs.Sourcing.{sourced_stopped, sourced_ended}
+use Rattle.raft_types.specs.declared.limits.TheConstants.{NOOP}
+use Rattle.cluster_world.specs.World.{Placed}
+use Rattle.cluster_world.specs.Events.{sent}
 use Rattle.cluster_world.proofs.Roles.{Raised, leads_how}
 use Rattle.raft_types.specs.Core.{CoreParts}
 use Rattle.cluster_world.proofs.Keeping.{HeldOf, NodeKept, ChunkOf, InFlight, Kept, Within, Forward, forward_same, up_inside, held_stays}
@@ -61,13 +66,19 @@ index_within p low le (AppendReply t r i) c = omega (arith, le)
 index_within p low le (Chunk t i bt off total bytes) c = omega (arith, le, c)
 index_within p low le (ChunkReply t i off) c = omega (arith, le)
 
--- an event leaves it as it was whether all started
-started_same : (b : Start) (w : World) (place : ℕ) (n n' : Node) (ms : List Message) → (after_node b (suc place) n n' ms w).all_started ≡ w.all_started
-started_same b w place n n' ms = answer (nat_le (applied_before n n'.base) w.placed && nat_lt w.placed n'.applied) (w.history ++ take (n'.applied - w.placed) (drop (w.placed - b.base) n'.whole))
+-- an event leaves what is remembered of the opening, and the fires
+record Beside (w w' : World) : Type 0 where
+  opened : w'.opened ≡ w.opened
+  fires : w'.fires ≡ w.fires
+  started : w'.all_started ≡ w.all_started
+
+beside : (b : Start) (w : World) (place : ℕ) (n n' : Node) (ms : List Message) → Beside w (after_node b (suc place) n n' ms w)
+beside b w place n n' ms = answer (nat_le (applied_before n n'.base) w.placed && nat_lt w.placed n'.applied) (w.history ++ take (n'.applied - w.placed) (drop (w.placed - b.base) n'.whole)) (λ v. sent v.flight ms)
   where
-    answer : (g : Bool) (l : List LogEntry) → (cond g (record (with_node (suc place) n' w) { placed = n'.applied; history = l }) (with_node (suc place) n' w)).all_started ≡ w.all_started
-    answer true l = refl
-    answer false l = refl
+    answer : (g : Bool) (l : List LogEntry) (f : World → List Message)
+        → Beside w (record (cond g (record (with_node (suc place) n' w) { placed = n'.applied; history = l }) (with_node (suc place) n' w)) { flight = f (cond g (record (with_node (suc place) n' w) { placed = n'.applied; history = l }) (with_node (suc place) n' w)) })
+    answer true l f = record { opened = refl; fires = refl; started = refl }
+    answer false l f = record { opened = refl; fires = refl; started = refl }
 
 -- the opening's term is asked of followers
 raised_by : (b : Start) (m : Machine) (s : Spine) (c : CoreParts) (sender : List LogEntry) (event : CoreEvent) → Asked b m.len s c sender event → Raised c event
@@ -78,22 +89,27 @@ raised_by b m s c sender (Command entry) a = tt
 raised_by b m s c sender (Fire entry) a = tt
 raised_by b m s c sender (Heard message applied held) a = tt
 
-module _ (b : Start) (m : Machine) (fit : IsFit b m) where
+module _ (b : Start) (m : Machine) (fit : IsFit b m) (K : Placed → Type 0) (noop : (i t : ℕ) → K (record { index = i; term = t; entry = NOOP ∷ [] })) where
   -- an event of a node, with the whole log of a sender
   pub kept_by : (w : World) → (h : Kept b m w) → (place : ℕ) → place < length w.nodes → (sender : List LogEntry) (held : Held) (event : CoreEvent)
       → Asked b m.len h.spine (core_of b m (suc place) (node_at b w (suc place))) sender event
       → (high : ℕ) → (w.all_started ≡ true → Within b w → high ≤ w.placed) → Steps (suc place) (node_at b w (suc place)).base high (node_at b w (suc place)).applied (on (core_of b m (suc place) (node_at b w (suc place))) event)
-      → (held.count ≡ 0) ⊎ HeldOf b m.len h.spine held → (stop : Option ℕ) → Forward b m h.spine w (node_event b m (suc place) sender held event stop w)
-  kept_by w h place inside sender held event a high le st hk (Some j) =
+      → (held.count ≡ 0) ⊎ HeldOf b m.len h.spine held → KnownEvent K (core_of b m (suc place) (node_at b w (suc place))) event → (stop : Option ℕ) → Forward b m h.spine K w (node_event b m (suc place) sender held event stop w)
+  kept_by w h place inside sender held event a high le st hk new (Some j) =
       let n = node_at b w (suc place) in
-      record { onward = kept_stopped b m w h place inside n refl sender event high j (event_stop b m.len fit.sizes h.spine h.reached (core_of b m (suc place) n) n.whole (h.nodes place inside).tied fit.members sender event a j) st; started = refl; within = λ e x. within_stopped b m w h place inside n refl sender event high j st x (le e x) }
-  kept_by w h place inside sender held event a high le st hk None =
+      let q = event_stop b m.len fit.sizes h.spine h.reached (core_of b m (suc place) n) n.whole (h.nodes place inside).tied fit.members sender event a j in
+      record { onward = kept_stopped b m w h place inside n refl sender event high j q st; opened = refl; fires = refl; started = refl; sourced = λ x. sourced_stopped K noop b m w h place inside n refl sender event new x j q; within = λ e x. within_stopped b m w h place inside n refl sender event high j st x (le e x) }
+  kept_by w h place inside sender held event a high le st hk new None =
       let n = node_at b w (suc place) in
       let q = event_turn b m.len fit.sizes h.spine h.reached (core_of b m (suc place) n) n.whole (h.nodes place inside).tied fit.members sender event a in
+      let z = beside b w place n (ended b m sender n held (on (core_of b m (suc place) n) event)) (on (core_of b m (suc place) n) event).messages in
       record {
         onward = kept_ended b m w h place inside n refl sender event high held q st (leads_how (core_of b m (suc place) n) event (raised_by b m h.spine (core_of b m (suc place) n) sender event a))
             (held_stays b m.len h.spine (moved_all q.moves h.spine) (moves_grow b h.reached.start.low h.spine (reached_sound b h.spine h.reached) q.moves q.can) held hk);
-        started = started_same b w place n (ended b m sender n held (on (core_of b m (suc place) n) event)) (on (core_of b m (suc place) n) event).messages;
+        opened = z.opened;
+        fires = z.fires;
+        started = z.started;
+        sourced = λ x. sourced_ended K noop b m w h place inside n refl sender event new x held q (let lo = (h.nodes place inside).tied.based in let up = st.past.base in (let r : b.base ≤ (on (core_of b m (suc place) n) event).core.log.base = omega (arith, lo, up) in r));
         within = λ e x. within_ended b m w h place inside n refl sender event high held st x (le e x);
       }
 
@@ -101,9 +117,9 @@ module _ (b : Start) (m : Machine) (fit : IsFit b m) where
   pub kept_own : (w : World) → (h : Kept b m w) → (place : ℕ) → place < length w.nodes → (event : CoreEvent)
       → Asked b m.len h.spine (core_of b m (suc place) (node_at b w (suc place))) [] event
       → Steps (suc place) (node_at b w (suc place)).base (node_at b w (suc place)).base (node_at b w (suc place)).applied (on (core_of b m (suc place) (node_at b w (suc place))) event)
-      → (stop : Option ℕ) → Forward b m h.spine w (own_event b m (suc place) event stop w)
-  kept_own w h place inside event a st stop = kept_by w h place inside [] (node_at b w (suc place)).held event a (node_at b w (suc place)).base
-      (λ e x. let y = x.nodes place inside in let fb = (h.nodes place inside).from_base in (let r : (node_at b w (suc place)).base ≤ w.placed = omega (arith, y, fb) in r)) st (h.nodes place inside).holds stop
+      → KnownEvent K (core_of b m (suc place) (node_at b w (suc place))) event → (stop : Option ℕ) → Forward b m h.spine K w (own_event b m (suc place) event stop w)
+  kept_own w h place inside event a st new stop = kept_by w h place inside [] (node_at b w (suc place)).held event a (node_at b w (suc place)).base
+      (λ e x. let y = x.nodes place inside in let fb = (h.nodes place inside).from_base in (let r : (node_at b w (suc place)).base ≤ w.placed = omega (arith, y, fb) in r)) st (h.nodes place inside).holds new stop
 
 -- a snapshot of which these bytes are held is the chunk's, so that they are no more than it has
 module _ (b : Start) (len : List LogEntry → ℕ) (s : Spine) (sound : Sound b s) (h : Held) (ok : (h.count ≡ 0) ⊎ HeldOf b len s h) (from t i bt off total : ℕ) (c : ChunkClaim b len s from t i bt total) where
@@ -174,24 +190,24 @@ module _ (b : Start) (m : Machine) (fit : IsFit b m) (w : World) (h : Kept b m w
   asked_of k n ok from to sender (ChunkReply t i off) c x = tt
 
   -- a message arrives
-  pub kept_arrives : (from to : ℕ) (body : Body) → InFlight b m h.spine w (record { from = from; to = to; body = body }) → (w.all_started ≡ true → ChunkWithin w.placed body) → (stop : Option ℕ)
-      → Forward b m h.spine w (arrives b m (record { from = from; to = to; body = body }) stop w)
-  kept_arrives from zero body f cw stop = absurd (let z = f.to_node in omega (arith, z))
-  kept_arrives from (suc place) body f cw stop = answer ((node_at b w (suc place)).up && not (is_cut w.cuts from (suc place))) refl
+  pub kept_arrives : (K : Placed → Type 0) → ((i t : ℕ) → K (record { index = i; term = t; entry = NOOP ∷ [] })) → (from to : ℕ) (body : Body) → InFlight b m h.spine w (record { from = from; to = to; body = body }) → (w.all_started ≡ true → ChunkWithin w.placed body) → KnownBody K body → (stop : Option ℕ)
+      → Forward b m h.spine K w (arrives b m (record { from = from; to = to; body = body }) stop w)
+  kept_arrives K noop from zero body f cw new stop = absurd (let z = f.to_node in omega (arith, z))
+  kept_arrives K noop from (suc place) body f cw new stop = answer ((node_at b w (suc place)).up && not (is_cut w.cuts from (suc place))) refl
     where
       n : Node
       n = node_at b w (suc place)
 
       answer : (g : Bool) → ((node_at b w (suc place)).up && not (is_cut w.cuts from (suc place))) ≡ g
-          → Forward b m h.spine w (cond g (node_event b m (suc place) (node_at b w from).whole (arrived (node_at b w (suc place)) body)
+          → Forward b m h.spine K w (cond g (node_event b m (suc place) (node_at b w from).whole (arrived (node_at b w (suc place)) body)
           (Heard (record { from = from; to = suc place; body = body }) (node_at b w (suc place)).applied (told_of (node_at b w (suc place)) body)) stop w) w)
-      answer false e = forward_same b m w h
+      answer false e = forward_same b m K w h
       answer true e0 =
           let up = (and_parts (node_at b w (suc place)).up (not (is_cut w.cuts from (suc place))) e0).0 in
           let inside = up_inside b w place up in
           let ok = h.nodes place inside in
           let fn = f.from_node in
-          kept_by b m fit w h place inside (node_at b w from).whole (arrived (node_at b w (suc place)) body)
+          kept_by b m fit K noop w h place inside (node_at b w from).whole (arrived (node_at b w (suc place)) body)
           (Heard (record { from = from; to = suc place; body = body }) (node_at b w (suc place)).applied (told_of (node_at b w (suc place)) body))
           (record {
             from_node = λ z. (let r : ⊥ = omega (arith, z, fn) in r);
@@ -206,7 +222,7 @@ module _ (b : Start) (m : Machine) (fit : IsFit b m) (w : World) (h : Kept b m w
           (λ e x. let y = x.nodes place inside in let fb = ok.from_base in index_within w.placed (node_at b w (suc place)).base (omega (arith, y, fb)) body (cw e))
           (heard_steps (suc place) (node_at b w (suc place)).base (max (node_at b w (suc place)).base (chunk_index body)) (node_at b w (suc place)).applied (core_of b m (suc place) (node_at b w (suc place))) (record { from = from; to = suc place; body = body })
           (told_of (node_at b w (suc place)) body) fn f.other ok.from_base (within_index (node_at b w (suc place)).base body) (record { same = refl; base = omega arith; below = omega arith; commit = ok.to_commit }))
-          (arrived_holds (suc place) (node_at b w (suc place)) ok from (suc place) body f.claim) stop
+          (arrived_holds (suc place) (node_at b w (suc place)) ok from (suc place) body f.claim) new stop
 
 -- a node on its store, just started or standing still
 pub refreshed_kept : (b : Start) (m : Machine) (s : Spine) (k : ℕ) (up : Bool) (n : Node) → NodeKept b m s k n → NodeKept b m s k (refreshed b up n)

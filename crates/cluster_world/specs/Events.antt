@@ -169,16 +169,36 @@ all_raise b m openings term (k ∷ ks) w =
     let o = opening_of openings k in
     all_raise b m openings term ks (if n.up && nat_lt n.term term then tidies_if_due b k o.tidy_stop (own_event b m k (RaiseEvent term) o.raise_stop w) else w)
 
--- the opening: every node stood still, and nothing is in flight, cut, held or taken; the nodes start with what their stores hold, the history is what the
--- greatest base of those that started stands for, and the greatest term of those becomes the term of all that run
+-- before the opening: every node stands still with its store, and nothing is in flight, cut, held, taken or in the history
+abbrev pub closed : Start → World → World
+closed b w =
+    record {
+      nodes = map (refreshed b false) w.nodes;
+      flight = [];
+      cuts = [];
+      hold = false;
+      placed = b.base;
+      history = [];
+      takes = [];
+      opened = map (log_of b) w.nodes;
+      opened_at = b.base;
+      all_started = false;
+      fires = [];
+    }
+
+-- the history of an opening: what the greatest base of those that started stands for
+abbrev pub with_front : Start → List ℕ → World → World
+with_front b ks v =
+    let base = greatest_base b v ks in
+    record v { placed = base; history = front_at b v base ks; opened_at = base; all_started = all_up b v ks }
+
+-- the opening: the nodes start with what their stores hold, the history is what the greatest base of those that started stands
+-- for, and the greatest term of those becomes the term of all that run
 abbrev pub opens : Start → Machine → List Opening → World → World
 opens b m openings w =
     let all = ids (nodes_of b) in
-    let before : World =
-    record w { nodes = map (refreshed b false) w.nodes; flight = []; cuts = []; hold = false; takes = []; fires = []; opened = map (log_of b) w.nodes } in
-    let v = all_start b openings all before in
-    let base = greatest_base b v all in
-    all_raise b m openings (greatest_term b v all) all (record v { placed = base; history = front_at b v base all; all_started = all_up b v all })
+    let v = all_start b openings all (closed b w) in
+    all_raise b m openings (greatest_term b v all) all (with_front b all v)
 
 -- What happens.
 

@@ -1,11 +1,12 @@
 -- The facts of every world that events reach.
-use Rattle.std.specs.Prelude.{◌≡◌, ◌⊎◌, ℕ, suc, ◌-◌, ◌<◌, ◌≤◌, true, ⊤, List, [], ◌++◌, length, take, get_or}
+use Rattle.std.specs.Prelude.{◌≡◌, ◌⊎◌, ℕ, suc, ◌+◌, ◌-◌, ◌<◌, ◌≤◌, true, ⊤, List, [], ◌∷◌, ◌++◌, length, take, get_or, Some}
+use Rattle.raft_types.specs.declared.limits.TheConstants.{NOOP}
 use Rattle.raft_types.specs.declared.entry.LogEntry.{LogEntry}
 use Rattle.raft_types.specs.declared.event.CoreEvent.{CoreEvent}
 use Rattle.raft_types.specs.declared.event.CoreEvent.TheVariants.{Timeout, Beat, Raise, Command, Fire, Heard}
 use Rattle.raft_types.specs.declared.message.Message.{Message}
 use Rattle.raft_types.specs.declared.state.Role.TheVariants.{Follower, Leader}
-use Rattle.raft_types.specs.Log.{term_at}
+use Rattle.raft_types.specs.Log.{LogParts, nothing, term_at, log_at}
 use Rattle.raft_types.specs.Quorum.{ids}
 use Rattle.raft_types.specs.Step.{on}
 use Rattle.raft_spine.specs.Logs.{SameFirst, IsFront}
@@ -71,6 +72,35 @@ pub record OneHistory (b : Start) (w : World) : Type 0 where
 -- where every node started at the opening, the history is no shorter: what a running node has applied is a front of it
 abbrev pub HistoryIsLonger : Start → World → Type 0
 HistoryIsLonger b w = w.all_started ≡ true → (k : ℕ) → Runs b w k → IsFront (applied_of b (node_at b w k)) w.history
+
+-- it was in some store at the opening, above what a snapshot stood for
+pub record WasStored (opened : List LogParts) (x : Placed) : Type 0 where
+  pub store : ℕ
+  pub there : store < length opened
+  pub is : (d : LogParts) → log_at (get_or opened store d) x.index ≡ Some (record { term = x.term; entry = x.entry })
+
+-- it is one of these
+pub record IsAmong (xs : List Placed) (x : Placed) : Type 0 where
+  pub place : ℕ
+  pub there : place < length xs
+  pub is : (d : Placed) → get_or xs place d ≡ x
+
+-- it is one of these, and no other one of them has its index and term
+pub record IsOneOf (xs : List Placed) (x : Placed) : Type 0 where
+  pub among : IsAmong xs x
+  pub only : (i : ℕ) (d : Placed) → i < length xs → (get_or xs i d).index ≡ x.index → (get_or xs i d).term ≡ x.term → i ≡ among.place
+
+-- an entry is of the opening, a noop, a fire, or exactly one of the commands that were taken
+abbrev pub ComesFrom : World → Placed → Type 0
+ComesFrom w x = (WasStored w.opened x ⊎ (x.entry ≡ NOOP ∷ [])) ⊎ (IsAmong w.fires x ⊎ IsOneOf w.takes x)
+
+-- the entry at a place of a whole log
+abbrev pub entry_of : Start → List LogEntry → ℕ → Placed
+entry_of b l place = record { index = suc (b.base + place); term = (get_or l place nothing).term; entry = (get_or l place nothing).entry }
+
+-- each entry of the history that is past what it began with at the opening comes from somewhere
+abbrev pub HistoryComesFrom : Start → World → Type 0
+HistoryComesFrom b w = (place : ℕ) → w.opened_at ≤ b.base + place → place < length w.history → ComesFrom w (entry_of b w.history place)
 
 -- who leads has all that running nodes of no later term know to be committed
 abbrev pub LeadersHave : Start → World → Type 0

@@ -62,9 +62,10 @@ pub record World : Type 0 where
   pub history : List LogEntry
   -- the commands that leaders took since the opening, also in events in which they stopped
   pub takes : List Placed
-  -- remembered of the opening, for what is said of the history: the entries in the stores, and whether all nodes started;
-  -- and the fires that leaders appended since
+  -- remembered of the opening, for what is said of the history: the entries in the stores, the index that the history began
+  -- with, and whether all nodes started; and the fires that leaders appended since
   pub opened : List LogParts
+  pub opened_at : ℕ
   pub all_started : Bool
   pub fires : List Placed
 
@@ -142,7 +143,8 @@ begin_world b count =
       placed = b.base;
       history = [];
       takes = [];
-      opened = [];
+      opened = replicate (nodes_of b) (whole_log b b.log);
+      opened_at = b.base;
       all_started = false;
       fires = [];
     }

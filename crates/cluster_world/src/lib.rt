@@ -9,7 +9,7 @@ ghost use Rattle.raft_spine.specs.Start.{Start};
 ghost use Rattle.cluster_world.specs.World.{Machine, node_at, begin_world};
 ghost use Rattle.cluster_world.specs.Events.{Event, run};
 ghost use Rattle.cluster_world.specs.Runs.{three, counter, elected_world, decided_world};
-ghost use Rattle.cluster_world.specs.Facts.{IsFit, NoTwoLead, LedOnce, TakesDiffer, WholeLogsMatch, OneHistory, HistoryIsLonger, LeadersHave, StandsForWhole};
+ghost use Rattle.cluster_world.specs.Facts.{IsFit, NoTwoLead, LedOnce, TakesDiffer, WholeLogsMatch, OneHistory, HistoryIsLonger, HistoryComesFrom, LeadersHave, StandsForWhole};
 
 /// The facts of every world that a list of events makes of nodes that begin with one and the same store (Raft, section 5:
 /// election safety, log matching, state machine safety, leader completeness).
@@ -21,6 +21,7 @@ pub fn world_facts()
     ensures history_is_longer { (b : Start) (m : Machine) (count : ℕ) (es : List Event) → IsFit b m → HistoryIsLonger b (run b m (begin_world b count) es) }
     ensures stands_for_whole { (b : Start) (m : Machine) (count : ℕ) (es : List Event) → IsFit b m → StandsForWhole b m (run b m (begin_world b count) es) }
     ensures takes_differ { (b : Start) (m : Machine) (count : ℕ) (es : List Event) → IsFit b m → TakesDiffer (run b m (begin_world b count) es) }
+    ensures comes_from { (b : Start) (m : Machine) (count : ℕ) (es : List Event) → IsFit b m → HistoryComesFrom b (run b m (begin_world b count) es) }
     ensures leaders_have { (b : Start) (m : Machine) (count : ℕ) (es : List Event) → IsFit b m → LeadersHave b (run b m (begin_world b count) es) }
 {}
 

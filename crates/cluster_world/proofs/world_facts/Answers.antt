@@ -5,7 +5,7 @@ use Rattle.std.proofs.Common.{ℕ, List}
 use Rattle.cluster_world.specs.World.{Machine, begin_world}
 use Rattle.cluster_world.specs.Events.{Event, run}
 use Rattle.cluster_world.specs.Facts.{IsFit, WorldFacts}
-use Rattle.cluster_world.proofs.Runs.{holds_run, led_once, history_longer, facts}
+use Rattle.cluster_world.proofs.Runs.{holds_run, led_once, history_longer, history_from, facts}
 use Rattle.cluster_world.proofs.Whole.{stands_for_whole}
 use Rattle.cluster_world.proofs.world_facts.Goals as goal
 
@@ -35,3 +35,6 @@ returns-clause-takes_differ c = λ b m count es fit. (holds_run b m fit count es
 
 pub returns-clause-history_is_longer : goal.returns-clause-history_is_longer
 returns-clause-history_is_longer c = λ b m count es fit. history_longer b m (begin b) (run b m (begin_world b count) es) (holds_run b m fit count es) (of_run b m count es fit).one_history
+
+pub returns-clause-comes_from : goal.returns-clause-comes_from
+returns-clause-comes_from c = λ b m count es fit. history_from b m (begin b) (run b m (begin_world b count) es) (holds_run b m fit count es)
