@@ -1,4 +1,5 @@
 pub mod Betweens
+pub mod Descending
 pub mod Sweeping
 pub mod Ways
 pub mod Touching

@@ -1,2 +1,4 @@
 pub mod Under
 pub mod Notes
+pub mod Walks
+pub mod Turns

@@ -3,6 +3,7 @@
 //! kept.
 #![tactic(auto)]
 
+mod descent;
 mod drops;
 mod grow;
 mod raises;
@@ -10,6 +11,7 @@ mod sweeps;
 mod walk;
 mod write;
 
+pub use descent::Walk;
 pub use drops::drop_all;
 pub use grow::set;
 pub use walk::path_after;
