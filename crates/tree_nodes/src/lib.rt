@@ -11,3 +11,4 @@ mod walk;
 
 pub use draft::{Changes, Draft};
 pub use tree::Tree;
+pub use walk::Walk;

@@ -1,35 +1,87 @@
 // The nodes in order of path, one after another.
-ghost use Rattle.std.specs.Prelude.{◌≡◌, ◌+◌, ◌≤◌, IfOk, IsTrue, List, [], ◌∷◌, Option, Some, None};
-ghost use Rattle.std.specs.List.{filter};
+ghost use Rattle.std.specs.Prelude.{◌≡◌, ◌+◌, ◌≤◌, IfOk, IfSome, List, [], Option, Some, None, length};
 ghost use Rattle.std.specs.Option.{option_copied};
 ghost use Rattle.std.specs.FinMap.{get, entries};
 ghost use Rattle.khepri_terms.specs.Terms.{NameText};
-ghost use Rattle.khepri_terms.specs.Order.{path_cmp};
-ghost use Rattle.khepri_types.specs.declared.node.Node.{Node};
-ghost use Rattle.khepri_types.specs.Paths.{is_front, is_child};
-ghost use Rattle.khepri_types.specs.Tree.{Tree as Nodes, IsTree, stands};
-ghost use Rattle.tree_nodes.specs.Next.{IsNext, follows};
+ghost use Rattle.khepri_types.specs.Conditions.{seen_at};
+ghost use Rattle.khepri_types.specs.Tree.{Tree as Nodes, IsTree};
+ghost use Rattle.khepri_types.specs.Views.{as_seen, node_of};
+ghost use Rattle.tree_nodes.specs.Drafts.{IsShallow};
+ghost use Rattle.tree_nodes.specs.Next.{ahead, ComesNext, Ends, GoesOn, GoesOnFromParent, IsNextNode, path_or_root};
 
 use crate::draft::Draft;
 use crate::tree::Tree;
 use khepri_terms::Path;
-use std::alloc::AllocError;
+use khepri_types::NodeView;
+use std::alloc::{AllocError, Global};
+use std::marker::Model;
 use std::sync::ledger::Ledger;
 use step_count::Steps;
 use tree_walks::path_after;
 
+/// Goes over the nodes of a tree in order of path: one look at each, and no search from the root.
+#[derive(Drop)]
+pub struct Walk<'t> {
+    nested: tree_walks::Walk<'t>,
+}
+
+impl<'t> Model for Walk<'t> {
+    ghost use Rattle.std.specs.Coded.{codes};
+    ghost use Rattle.std.specs.FinMap.{code};
+    ghost use Rattle.khepri_types.specs.contracts.condition.Condition as condition;
+    ghost use Rattle.tree_nodes.specs.Next.{Walked};
+
+    ghost Value = { Walked };
+
+    ghost coded = { Prim.hlevel (code, codes, condition.the_row.coded) };
+
+    ghost view = { λ w. w.nested };
+}
+
 impl Tree {
-    /// The least path of a node that comes after the other path; the least of all after none: one step.
-    pub fn path_after<L: Ledger>(
-        &self,
-        after: Option<&Path>,
-        steps: &mut Steps<L>,
-    ) -> Result<Option<Path>, AllocError>
-        ensures next { IfOk result (λ o. IsNext path_cmp (λ q. IsTrue (stands self.now q)) (option_copied after.entry) o) }
-        ensures steps { steps.new ≡ steps.old + 1 }
+    /// A walk over all nodes, which comes to the root first. Here alone it takes memory.
+    pub fn walk(&self) -> Result<Walk, AllocError>
+        ensures tree { IfOk result (λ w. w.tree ≡ self.now) }
+        ensures begins { IfOk result (λ w. w.last ≡ None) }
     {
+        let nested = tree_walks::Walk::over(&self.nested)?;
+        Ok(Walk { nested })
+    }
+}
+
+impl<'t> Walk<'t> {
+    /// How many names the path has to which the walk has come.
+    pub fn len(&self) -> usize
+        ensures len { result ≡ length (path_or_root self.now.last) }
+        ensures tree { IsTree self.now.tree }
+        ensures shallow { IsShallow self.now.tree }
+    {
+        self.nested.len()
+    }
+
+    /// The path to which the walk has come; before the first node the root.
+    pub fn path(&self, alloc: Global) -> Result<Path, AllocError>
+        ensures { IfOk result (λ p. p ≡ path_or_root self.now.last) }
+    {
+        self.nested.path(alloc)
+    }
+
+    /// Goes on to the node that comes next: one step, and none where no node is left.
+    pub fn next<L: Ledger>(&mut self, steps: &mut Steps<L>) -> Option<NodeView<'t>>
+        ensures tree { self.new.tree ≡ self.old.tree }
+        ensures next { IfSome result (λ v. GoesOn self.old.tree self.old.last self.new.last) }
+        ensures node { IfSome result (λ v. Some (as_seen v) ≡ seen_at self.old.tree (path_or_root self.new.last)) }
+        ensures watches { IfSome result (λ v. get self.old.tree (path_or_root self.new.last) ≡ Some (node_of v)) }
+        ensures ends { result ≡ None → Ends self.old.tree self.old.last }
+        ensures stays { result ≡ None → self.new ≡ self.old }
+        ensures steps { IfSome result (λ v. steps.new ≡ steps.old + 1) }
+        ensures idle { result ≡ None → steps.new ≡ steps.old }
+    {
+        let Some(node) = self.nested.next() else {
+            return None;
+        };
         steps.tick();
-        path_after(&self.nested.draft(), after)
+        Some(node)
     }
 }
 
@@ -40,7 +92,7 @@ impl<'a> Draft<'a> {
         after: Option<&Path>,
         steps: &mut Steps<L>,
     ) -> Result<Option<Path>, AllocError>
-        ensures next { IfOk result (λ o. IsNext path_cmp (λ q. IsTrue (stands self.now.tree q)) (option_copied after.entry) o) }
+        ensures next { IfOk result (λ o. IsNextNode self.now.tree (option_copied after.entry) o) }
         ensures steps { steps.new ≡ steps.old + 1 }
     {
         steps.tick();
@@ -52,9 +104,9 @@ impl<'a> Draft<'a> {
 /// step takes the first of those that are ahead, and where no path comes next none is. The first is the root, and the parent of each
 /// later one is a front of the path before it.
 pub fn walks_go_over_all()
-    ensures begins { (T : Nodes) → filter (λ e. follows path_cmp None e.0) (entries T) ≡ entries T }
-    ensures goes_on { (T : Nodes) (after : Option (List NameText)) (x : List NameText) → IsNext path_cmp (λ q. IsTrue (stands T q)) after (Some x) → (n : Node) × (get T x ≡ Some n) × (filter (λ e. follows path_cmp after e.0) (entries T) ≡ (x, n) ∷ filter (λ e. follows path_cmp (Some x) e.0) (entries T)) }
-    ensures ends { (T : Nodes) (after : Option (List NameText)) → IsNext path_cmp (λ q. IsTrue (stands T q)) after None → filter (λ e. follows path_cmp after e.0) (entries T) ≡ [] }
-    ensures root { (T : Nodes) (x : List NameText) → IsTree T → IsNext path_cmp (λ q. IsTrue (stands T q)) None (Some x) → x ≡ [] }
-    ensures parent { (T : Nodes) (a : List NameText) (x : List NameText) (p : List NameText) → IsTree T → IsNext path_cmp (λ q. IsTrue (stands T q)) (Some a) (Some x) → IsTrue (is_child p x) → IsTrue (is_front p a) }
+    ensures begins { (T : Nodes) → ahead T None ≡ entries T }
+    ensures goes_on { (T : Nodes) (after : Option (List NameText)) (x : List NameText) → IsNextNode T after (Some x) → ComesNext T after x }
+    ensures ends { (T : Nodes) (after : Option (List NameText)) → IsNextNode T after None → ahead T after ≡ [] }
+    ensures root { (T : Nodes) (x : List NameText) → IsTree T → IsNextNode T None (Some x) → x ≡ [] }
+    ensures parent { (T : Nodes) (a x p : List NameText) → IsTree T → GoesOnFromParent T a x p }
 {}
