@@ -52,12 +52,14 @@ impl Sink for Drain {
 #[derive(Clone, Copy)]
 struct Way {
     is_slow: bool,
+    is_sink_slow: bool,
     failing_take: u64,
     failing_put: u64,
 }
 
 const FAST: Way = Way {
     is_slow: false,
+    is_sink_slow: false,
     failing_take: 0,
     failing_put: 0,
 };
@@ -87,7 +89,7 @@ fn sink(alloc: Global, way: Way) -> Result<Drain, AllocError> {
     let fails = vec![in alloc; way.failing_put]?;
     Ok(Drain {
         sink: MemSink::new(Vec::new(alloc), fails),
-        is_slow: way.is_slow,
+        is_slow: way.is_sink_slow,
     })
 }
 
@@ -181,6 +183,7 @@ fn goes(alloc: Global, way: Way, status: Status, written: &[u8]) -> Result<bool,
 fn is_told_of_a_take(alloc: Global, failing_take: usize) -> Result<bool, AllocError> {
     let way = Way {
         is_slow: true,
+        is_sink_slow: true,
         failing_take: failing_take as u64,
         failing_put: 0,
     };
@@ -210,6 +213,7 @@ fn sources_fail_at_each_call(rt: HostRuntime) -> Result<(), Fail> {
 fn is_told_of_a_byte(alloc: Global, failing_put: usize) -> Result<bool, AllocError> {
     let way = Way {
         is_slow: true,
+        is_sink_slow: true,
         failing_take: 0,
         failing_put: failing_put as u64,
     };
@@ -228,26 +232,43 @@ fn first_wrong_byte(alloc: Global) -> Result<Option<usize>, AllocError> {
     Ok(None)
 }
 
-// Whether just the answers were written that stood before the one that failed.
-fn is_told_of_a_put(alloc: Global, failing_put: usize) -> Result<bool, AllocError> {
+// Whether just what was put out before stands where the put of this number fails, of a source that gives its bytes so.
+fn is_told_of_a_put(
+    alloc: Global,
+    is_slow: bool,
+    failing_put: usize,
+    status: Status,
+    written: &[u8],
+) -> Result<bool, AllocError> {
     let way = Way {
-        is_slow: false,
+        is_slow,
+        is_sink_slow: false,
         failing_take: 0,
         failing_put: failing_put as u64,
     };
-    if failing_put < 2 {
-        return goes(alloc, way, Status::SinkFault, b"");
-    }
-    goes(alloc, way, Status::SinkFault, answers_to(failing_put - 2))
+    goes(alloc, way, status, written)
 }
 
+// Where the source gives the bytes of a line one by one, each answer is put out before the source is asked again.
 fn first_wrong_put(alloc: Global) -> Result<Option<usize>, AllocError> {
-    for call in 1..=6 {
-        if !is_told_of_a_put(alloc, call)? {
+    if !is_told_of_a_put(alloc, true, 1, Status::SinkFault, b"")? {
+        return Ok(Some(1));
+    }
+    for call in 2..=6 {
+        if !is_told_of_a_put(alloc, true, call, Status::SinkFault, answers_to(call - 2))? {
             return Ok(Some(call));
         }
     }
     Ok(None)
+}
+
+// Where all lines come at once, the opening is put out before, and the answers together.
+fn are_put_together(alloc: Global) -> Result<bool, AllocError> {
+    Ok(
+        is_told_of_a_put(alloc, false, 1, Status::SinkFault, b"")?
+            && is_told_of_a_put(alloc, false, 2, Status::SinkFault, OPENING)?
+            && is_told_of_a_put(alloc, false, 3, Status::Ended, ANSWERS)?,
+    )
 }
 
 #[test]
@@ -259,6 +280,12 @@ fn sinks_fail_at_each_byte(rt: HostRuntime) -> Result<(), Fail> {
 #[test]
 fn sinks_fail_at_each_call(rt: HostRuntime) -> Result<(), Fail> {
     assert_eq!(rt; first_wrong_put(rt.alloc())?, None);
+    Ok(())
+}
+
+#[test]
+fn answers_to_lines_at_hand_are_put_together(rt: HostRuntime) -> Result<(), Fail> {
+    assert!(rt; are_put_together(rt.alloc())?);
     Ok(())
 }
 
@@ -276,6 +303,7 @@ static OTHER_WORDS: [&[&str]; 6] = [
 
 const NINTH_FAILS: Way = Way {
     is_slow: true,
+    is_sink_slow: true,
     failing_take: 0,
     failing_put: 9,
 };

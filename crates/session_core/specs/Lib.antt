@@ -1,3 +1,4 @@
 pub mod Statuses
 pub mod Told
 pub mod Session
+pub mod Turns

@@ -1,5 +1,5 @@
 // The answer to one line.
-ghost use Rattle.std.specs.Prelude.{◌≡◌, ◌<◌, ◌^◌, ◌++◌, OnOk, Some};
+ghost use Rattle.std.specs.Prelude.{◌≡◌, ◌<◌, ◌^◌, ◌++◌, OnOk, OnErr, Some, length, take};
 ghost use Rattle.line_io.specs.Shown.{given_next};
 ghost use Rattle.khepri_types.specs.declared.command.Line.TheVariants as line_of;
 ghost use Rattle.khepri_types.specs.declared.out.EntryText.TheVariants as text_of_entry;
@@ -9,6 +9,7 @@ ghost use Rattle.session_core.specs.Told.{told, after};
 
 use khepri_machine::KhepriMachine;
 use khepri_terms::TextFault;
+use khepri_terms::texts::keep_whole;
 use khepri_types::{Command, EntryText, Line, OutLine, Reason, Reply};
 use line_io::Next;
 use line_text::{print_out, read_line};
@@ -21,7 +22,7 @@ pub fn lead(out: &mut Vec<u8>) -> Result<(), AllocError>
     put_out(OutLine::Leads { node: 1, term: 1 }, out)
 }
 
-/// Does what line `number` asks for, and appends its answer.
+/// Does what line `number` asks for, and appends its answer; where memory is wanting, nothing.
 pub fn answer(
     alloc: Global,
     machine: &mut KhepriMachine,
@@ -32,6 +33,25 @@ pub fn answer(
     requires { machine.old.position < 2 ^ 40 }
     ensures text { OnOk result (out.new.items ≡ out.old.items ++ text_of (told number machine.old (given_next next))) }
     ensures state { OnOk result (machine.new ≡ after number machine.old (given_next next)) }
+    ensures err { OnErr result (out.new.items ≡ out.old.items) }
+{
+    let len = out.len();
+    let answered = answer_next(alloc, machine, number, next, out);
+    keep_whole(answered, len, out)
+}
+
+// Answers what the reader gave; after want of memory what was there before still stands at the front.
+fn answer_next(
+    alloc: Global,
+    machine: &mut KhepriMachine,
+    number: u64,
+    next: Next,
+    out: &mut Vec<u8>,
+) -> Result<(), AllocError>
+    requires { machine.old.position < 2 ^ 40 }
+    ensures text { OnOk result (out.new.items ≡ out.old.items ++ text_of (told number machine.old (given_next next))) }
+    ensures state { OnOk result (machine.new ≡ after number machine.old (given_next next)) }
+    ensures front { take (length out.old.items) out.new.items ≡ out.old.items }
 {
     match next {
         Next::End => Ok(()),
@@ -51,6 +71,7 @@ fn answer_text(
     requires { machine.old.position < 2 ^ 40 }
     ensures text { OnOk result (out.new.items ≡ out.old.items ++ text_of (answer_line number machine.old (line_at text.now)).0) }
     ensures state { OnOk result (machine.new ≡ (answer_line number machine.old (line_at text.now)).1) }
+    ensures front { take (length out.old.items) out.new.items ≡ out.old.items }
 {
     match read_line(alloc, text) {
         Ok(line) => answer_line(machine, number, line, out),
@@ -69,6 +90,7 @@ fn answer_line(
     requires { machine.old.position < 2 ^ 40 }
     ensures text { OnOk result (out.new.items ≡ out.old.items ++ text_of (answer_line number machine.old (Some line)).0) }
     ensures state { OnOk result (machine.new ≡ (answer_line number machine.old (Some line)).1) }
+    ensures front { take (length out.old.items) out.new.items ≡ out.old.items }
 {
     match line {
         Line::Command { node, cmd } => answer_command(machine, number, node, cmd, out),
@@ -86,6 +108,7 @@ fn answer_command(
     requires { machine.old.position < 2 ^ 40 }
     ensures text { OnOk result (out.new.items ≡ out.old.items ++ text_of (answer_line number machine.old (Some (line_of.Command node cmd))).0) }
     ensures state { OnOk result (machine.new ≡ (answer_line number machine.old (Some (line_of.Command node cmd))).1) }
+    ensures front { take (length out.old.items) out.new.items ≡ out.old.items }
 {
     if node > 1 {
         drop(cmd);
@@ -95,7 +118,8 @@ fn answer_command(
 }
 
 fn refuse(line: u64, reason: Reason, out: &mut Vec<u8>) -> Result<(), AllocError>
-    ensures { OnOk result (out.new.items ≡ out.old.items ++ with_lf (OutLine.Refused line reason)) }
+    ensures ok { OnOk result (out.new.items ≡ out.old.items ++ with_lf (OutLine.Refused line reason)) }
+    ensures front { take (length out.old.items) out.new.items ≡ out.old.items }
 {
     put_out(OutLine::Refused { line, reason }, out)
 }
@@ -110,6 +134,7 @@ fn execute(
     requires { machine.old.position < 2 ^ 40 }
     ensures text { OnOk result (out.new.items ≡ out.old.items ++ text_of (answer_line line machine.old (Some (line_of.Command 1 cmd))).0) }
     ensures state { OnOk result (machine.new ≡ (answer_line line machine.old (Some (line_of.Command 1 cmd))).1) }
+    ensures front { take (length out.old.items) out.new.items ≡ out.old.items }
 {
     match machine.exec_uncounted(&cmd) {
         Ok(reply) => put_applied(machine.position(), line, cmd, reply, out),
@@ -128,7 +153,8 @@ fn put_applied(
     reply: Reply,
     out: &mut Vec<u8>,
 ) -> Result<(), AllocError>
-    ensures { OnOk result (out.new.items ≡ (out.old.items ++ with_lf (OutLine.Entry n line (text_of_entry.Command cmd))) ++ with_lf (OutLine.Reply line n reply)) }
+    ensures ok { OnOk result (out.new.items ≡ (out.old.items ++ with_lf (OutLine.Entry n line (text_of_entry.Command cmd))) ++ with_lf (OutLine.Reply line n reply)) }
+    ensures front { take (length out.old.items) out.new.items ≡ out.old.items }
 {
     let text = EntryText::Command(cmd);
     if let Err(fault) = put_out(OutLine::Entry { n, line, text }, out) {
@@ -139,7 +165,8 @@ fn put_applied(
 }
 
 fn put_out(line: OutLine, out: &mut Vec<u8>) -> Result<(), AllocError>
-    ensures { OnOk result (out.new.items ≡ out.old.items ++ with_lf line) }
+    ensures ok { OnOk result (out.new.items ≡ out.old.items ++ with_lf line) }
+    ensures front { take (length out.old.items) out.new.items ≡ out.old.items }
 {
     let appended = append_line(&line, out);
     drop(line);
@@ -148,7 +175,8 @@ fn put_out(line: OutLine, out: &mut Vec<u8>) -> Result<(), AllocError>
 
 // Appends an output line and its LF.
 fn append_line(line: &OutLine, out: &mut Vec<u8>) -> Result<(), AllocError>
-    ensures { OnOk result (out.new.items ≡ out.old.items ++ with_lf line.now) }
+    ensures ok { OnOk result (out.new.items ≡ out.old.items ++ with_lf line.now) }
+    ensures front { take (length out.old.items) out.new.items ≡ out.old.items }
 {
     print_out(line, out)?;
     out.push(b'\n')?;

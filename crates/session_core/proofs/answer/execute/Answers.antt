@@ -10,4 +10,4 @@ pub returns-in-Ok-clause-text : goal.returns-in-Ok-clause-text
 returns-in-Ok-clause-text c =
     on_ok_weaker c.put_applied.result
     (text_of_command c.args.line c.position.result c.args.machine.now c.exec_uncounted.new.self c.args.cmd c.in-Ok.reply c.args.out.now.items (c.args.out.now.items ++ with_lf (out.Entry c.position.result c.args.line (text.Command c.args.cmd))) c.put_applied.new.out.items c.in-Ok.ensures c.position.ensures refl)
-    c.put_applied.ensures
+    c.put_applied.ensures.ok
