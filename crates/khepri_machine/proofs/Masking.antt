@@ -11,9 +11,9 @@ use Rattle.khepri_types.specs.Tree.{Tree, IsTree, stands}
 use Rattle.khepri_types.proofs.Fronts.{front_taken, front_long, front_child}
 use Rattle.pattern_match.specs.declared.mask.Mask.{Mask}
 use Rattle.pattern_match.specs.Masks.{AreMasks}
-use Rattle.tree_nodes.specs.Next.{IsNext}
-use Rattle.tree_nodes.proofs.Walking.{walk-ends, walk-root, walk-parent}
-use Rattle.khepri_machine.specs.Scans.{ahead, path_or_root}
+use Rattle.tree_nodes.specs.Next.{Ends, GoesOn, IsNext}
+use Rattle.tree_nodes.proofs.Walking.{walk-ends, walk-goes_on, walk-root, walk-parent}
+use Rattle.khepri_machine.specs.Scans.{ahead, ComesNext, Passes, path_or_root}
 
 abbrev Path : Type 0
 Path = List NameText
@@ -53,11 +53,11 @@ climbed_more from to names after old now new e lt c l left = record {
 
 -- ---- the path that comes next
 
-pub none_next : (T : Tree) (last : Option Path) → 0 < length (ahead T last) → IsNext path_cmp (λ q. IsTrue (stands T q)) last None → ⊥
+pub none_next : (T : Tree) (last : Option Path) → 0 < length (ahead T last) → Ends T last → ⊥
 none_next T last more none = omega (arith, ap length (walk-ends T last none))
 
 -- the root is the first of all
-pub root_first : (T : Tree) (last : Option Path) (q : Path) → length q ≡ 0 → IsNext path_cmp (λ q. IsTrue (stands T q)) last (Some q) → path_or_root last ≡ q
+root_first : (T : Tree) (last : Option Path) (q : Path) → length q ≡ 0 → IsNext path_cmp (λ q. IsTrue (stands T q)) last (Some q) → path_or_root last ≡ q
 root_first T last (n ∷ q) l next = absurd (omega arith)
 root_first T None [] l next = refl
 root_first T (Some []) [] l next = refl
@@ -68,7 +68,7 @@ pub record Below (T : Tree) (last : Option Path) (q : Path) (k : ℕ) : Type 0 w
   pub within : k ≤ length (path_or_root last)
   pub front : take k (path_or_root last) ≡ take k q
 
-pub below_last : (T : Tree) (last : Option Path) (q : Path) (k : ℕ) → IsTree T → length q ≡ suc k → IsNext path_cmp (λ q. IsTrue (stands T q)) last (Some q) → Below T last q k
+below_last : (T : Tree) (last : Option Path) (q : Path) (k : ℕ) → IsTree T → length q ≡ suc k → IsNext path_cmp (λ q. IsTrue (stands T q)) last (Some q) → Below T last q k
 below_last T None q k tree l next = absurd (omega (arith, ap length (walk-root T q tree next)))
 below_last T (Some a) q k tree l next =
     let c : is_child (take k q) q ≡ true = ap (is_child (take k q)) (sym (take_all (suc k) q (omega arith))) ∙ front_child q k (omega arith) in
@@ -78,6 +78,24 @@ below_last T (Some a) q k tree l next =
       within = omega (arith, front_long (take k q) a f, long);
       front = ap (λ (j : ℕ). take j a) (sym long) ∙ front_taken (take k q) a f;
     }
+
+-- ---- the path that a walk has come to
+
+pub passes : (T : Tree) (last o : Option Path) → GoesOn T last o → Passes T last o
+passes T last None next = absurd next
+passes T last (Some q) next = walk-goes_on T last q next
+
+pub came : (T : Tree) (last o : Option Path) → Passes T last o → (o ≡ Some (path_or_root o)) × ComesNext T last (path_or_root o)
+came T last None next = absurd next
+came T last (Some q) next = (refl, next)
+
+pub root_came : (T : Tree) (last o : Option Path) → length (path_or_root o) ≡ 0 → GoesOn T last o → path_or_root last ≡ path_or_root o
+root_came T last None l next = absurd next
+root_came T last (Some q) l next = root_first T last q l next
+
+pub below_came : (T : Tree) (last o : Option Path) (k : ℕ) → IsTree T → length (path_or_root o) ≡ suc k → GoesOn T last o → Below T last (path_or_root o) k
+below_came T last None k tree l next = absurd next
+below_came T last (Some q) k tree l next = below_last T last q k tree l next
 
 -- the masks of the next path, from those of its parent
 pub entered_next : (parts : List PatternPart) (T : Tree) (a q : Path) (k : ℕ) (s : Seen) (old new : List Mask) → length q ≡ suc k → take k a ≡ take k q → Some s ≡ seen_at T q

@@ -12,7 +12,7 @@ use Rattle.khepri_machine.proofs.machine.KhepriMachine.delmany_outcome.Goals as 
 pub dropped-requires : goal.dropped-requires
 dropped-requires g c =
     let parts = c.args.pattern.now in
-    let all : c.as_slice.result.now ≡ matching parts c.args.self.now.tree = c.as_slice.ensures.value ∙ (c.in_ok-paths.ensures ∙ ap (λ (S : State). matching parts S.tree) c.self.view_is) in
+    let all : c.as_slice.result.now ≡ matching parts c.args.self.now.tree = c.as_slice.ensures.value ∙ (c.in_ok-paths.ensures.paths ∙ ap (λ (S : State). matching parts S.tree) c.self.view_is) in
     let some : 0 < length parts = omega (arith, ap length c.parts.ensures.value) in
     record { below = ap (λ (ps : List (List NameText)). is_under ps []) all ∙ some_unmatched parts c.args.self.now.tree some }
 
@@ -20,6 +20,6 @@ pub returns-clause-value : goal.returns-clause-value
 returns-clause-value g c =
     let parts = c.args.pattern.now in
     let S : State = c.args.self.now in
-    let all : c.as_slice.result.now ≡ matching parts S.tree = c.as_slice.ensures.value ∙ (c.in_ok-paths.ensures ∙ ap (λ (U : State). matching parts U.tree) c.self.view_is) in
+    let all : c.as_slice.result.now ≡ matching parts S.tree = c.as_slice.ensures.value ∙ (c.in_ok-paths.ensures.paths ∙ ap (λ (U : State). matching parts U.tree) c.self.view_is) in
     let some : 0 < length parts = omega (arith, ap length c.parts.ensures.value) in
     subst (λ (r : Reply × State). IfOk c.dropped.result (λ o. r ≡ reply_and_next S o)) (ap (dropped S) all ∙ sym (delete_all_some S parts some)) c.dropped.ensures.value
