@@ -1,4 +1,4 @@
--- Which nodes of a tree fail, along a walk over all of them.
+-- Which nodes of a tree fail, and a walk over them.
 use Rattle.std.proofs.Common.{◌≡◌, ℕ, ◌+◌, ◌<◌, Bool, true, false, cond, not, ◌||◌, List, [], ◌∷◌, ◌++◌, length, get_or, drop, map, refl, sym, ap, subst, ◌∙◌, append_assoc, arith, Option, Some, None, Bor}
 use Rattle.std.specs.Prelude.{is_some}
 use Rattle.std.specs.List.{filter}
@@ -14,6 +14,7 @@ use Rattle.khepri_types.specs.Settling.{is_met, is_broken, fails, failing}
 use Rattle.khepri_types.specs.Tree.{Tree}
 use Rattle.khepri_types.specs.Watching.{first_unmet, unmet_of}
 use Rattle.tree_nodes.specs.Next.{IsNext}
+use Rattle.worklist_laws.specs.Candidates.{fails_node, fails_at}
 use Rattle.tree_nodes.proofs.Walking.{Stands, ahead, walk-begins, walk-goes_on, walk-ends}
 
 abbrev Path : Type 0
@@ -36,6 +37,13 @@ unmet-broken T (w ∷ watches) = elim (is_met T w) as (λ b. is_some (option_map
 pub unmet-fails : (T : Tree) (p : Path) (n : Node) → 0 < length p → is_some (option_map (λ (w : Watch). w.target) (unmet_of T (Some n))) ≡ fails T p n
 unmet-fails T [] n lt = absurd (omega arith)
 unmet-fails T (a ∷ p) n lt = unmet-broken T n.watches
+
+-- and so for what stands at a path
+pub unmet-at : (T : Tree) (p : Path) → 0 < length p → is_some (option_map (λ (w : Watch). w.target) (unmet_of T (get T p))) ≡ fails_at T p
+unmet-at T p lt = elim (get T p) as (λ o. is_some (option_map (λ (w : Watch). w.target) (unmet_of T o)) ≡ fails_node T p o) [
+  | None ↦ refl
+  | Some n ↦ unmet-fails T p n lt
+]
 
 pub root-fails : (T : Tree) (p : Path) (n : Node) → length p ≡ 0 → false ≡ fails T p n
 root-fails T [] n e = refl
@@ -67,36 +75,6 @@ none-seen T p e = elim (get T p) as (λ o. None ≡ seen_node T p o → o ≡ No
 ] e
 
 -- ---- the walk
-
--- the paths of those that fail among these
-abbrev pub failing_of : Tree → List Entry → List Path
-failing_of T es = map (λ e. e.0) (filter (λ e. fails T e.0 e.1) es)
-
--- with the paths found so far, those that fail ahead are all that fail
-abbrev pub Amid : Tree → List Path → Option Path → Type 0
-Amid T paths after = paths ++ failing_of T (ahead T after) ≡ failing T
-
-pub amid-begins : (T : Tree) → Amid T [] None
-amid-begins T = ap (failing_of T) (walk-begins T)
-
-pub amid-ends : (T : Tree) (paths : List Path) (after : Option Path) → IsNext path_cmp (Stands T) after None → Amid T paths after → paths ≡ failing T
-amid-ends T paths after none amid = sym (append-nil paths) ∙ (ap (λ (es : List Entry). paths ++ failing_of T es) (sym (walk-ends T after none)) ∙ amid)
-
-pub amid-fails : (T : Tree) (paths : List Path) (after : Option Path) (x : Path) → IsNext path_cmp (Stands T) after (Some x) → ((n : Node) → get T x ≡ Some n → true ≡ fails T x n)
-    → Amid T paths after → Amid T (paths ++ x ∷ []) (Some x)
-amid-fails T paths after x next low amid =
-    let step = walk-goes_on T after x next in
-    let rest = failing_of T (ahead T (Some x)) in
-    append_assoc paths (x ∷ []) rest
-    ∙ (ap (λ (b : Bool). paths ++ map (λ (e : Entry). e.0) (cond b ((x, step.0) ∷ filter (λ (e : Entry). fails T e.0 e.1) (ahead T (Some x))) (filter (λ (e : Entry). fails T e.0 e.1) (ahead T (Some x))))) (low step.0 step.1)
-    ∙ (ap (λ (es : List Entry). paths ++ failing_of T es) (sym step.2) ∙ amid))
-
-pub amid-stays : (T : Tree) (paths : List Path) (after : Option Path) (x : Path) → IsNext path_cmp (Stands T) after (Some x) → ((n : Node) → get T x ≡ Some n → false ≡ fails T x n)
-    → Amid T paths after → Amid T paths (Some x)
-amid-stays T paths after x next low amid =
-    let step = walk-goes_on T after x next in
-    ap (λ (b : Bool). paths ++ map (λ (e : Entry). e.0) (cond b ((x, step.0) ∷ filter (λ (e : Entry). fails T e.0 e.1) (ahead T (Some x))) (filter (λ (e : Entry). fails T e.0 e.1) (ahead T (Some x))))) (low step.0 step.1)
-    ∙ (ap (λ (es : List Entry). paths ++ failing_of T es) (sym step.2) ∙ amid)
 
 -- fewer are ahead
 pub ahead-less : (T : Tree) (after : Option Path) (x : Path) → IsNext path_cmp (Stands T) after (Some x) → length (ahead T (Some x)) < length (ahead T after)

@@ -1,2 +1,10 @@
+pub mod Beginnings
+pub mod Counting
 pub mod Failures
+pub mod Firsts
+pub mod Gathering
+pub mod Looking
+pub mod Noting
+pub mod Paying
 pub mod Settled
+pub mod Tops

@@ -3,3 +3,4 @@ pub mod Sparing
 pub mod Writing
 pub mod Masking
 pub mod Gathering
+pub mod Following

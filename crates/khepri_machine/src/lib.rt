@@ -5,6 +5,8 @@
 #![tactic(auto)]
 
 mod finish;
+mod follow;
+mod kept;
 mod machine;
 mod outcome;
 mod refusal;

@@ -1,4 +1,5 @@
 // What a command comes to.
+use khepri_terms::Path;
 use khepri_types::Reply;
 use tree_nodes::Changes;
 
@@ -7,6 +8,6 @@ use tree_nodes::Changes;
 pub(crate) enum Outcome {
     /// The tree stays.
     Same(Reply),
-    /// The tree becomes what a draft came to.
-    Changed(Reply, Changes),
+    /// The tree becomes what a draft came to, which touched these paths.
+    Changed(Reply, Changes, Vec<Path>),
 }

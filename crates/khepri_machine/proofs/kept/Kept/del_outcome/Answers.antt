@@ -1,7 +1,7 @@
 use Rattle.std.proofs.Common.{◌∙◌, List, [], ◌∷◌, ap, arith}
 use Rattle.khepri_terms.specs.Terms.{NameText}
 use Rattle.khepri_machine.proofs.Sparing.{other_than_root}
-use Rattle.khepri_machine.proofs.machine.KhepriMachine.del_outcome.Goals as goal
+use Rattle.khepri_machine.proofs.kept.Kept.del_outcome.Goals as goal
 
 pub dropped-requires : goal.dropped-requires
 dropped-requires g c = record {

@@ -7,7 +7,7 @@ use Rattle.khepri_types.specs.Paths.{is_under}
 use Rattle.khepri_types.specs.Patterns.{matching}
 use Rattle.khepri_machine.specs.Outcomes.{reply_and_next}
 use Rattle.khepri_machine.proofs.Sparing.{some_unmatched, delete_all_some}
-use Rattle.khepri_machine.proofs.machine.KhepriMachine.delmany_outcome.Goals as goal
+use Rattle.khepri_machine.proofs.kept.Kept.delmany_outcome.Goals as goal
 
 pub dropped-requires : goal.dropped-requires
 dropped-requires g c =

@@ -1,5 +1,5 @@
 use Rattle.khepri_machine.proofs.Writing.{stands_there, version_stays}
-use Rattle.khepri_machine.proofs.machine.KhepriMachine.write.Goals as goal
+use Rattle.khepri_machine.proofs.kept.Kept.write.Goals as goal
 
 pub give_watches-requires : goal.give_watches-requires
 give_watches-requires g c = record { stands = stands_there c.draft-draft.result.tree c.set.new.self.tree c.args.path.now c.args.payload.now c.in_ok-version.ensures.tree }
