@@ -1,25 +1,24 @@
 -- How many paths there are, and what a walk over them costs.
-use Rattle.std.proofs.Common.{◌≡◌, ◌⊎◌, inl, inr, ℕ, suc, ◌+◌, ◌<◌, ◌≤◌, Bool, true, false, cond, not, ◌&&◌, ◌||◌, List, [], ◌∷◌, ◌++◌, length, map, refl, sym, ap, subst, ◌∙◌, arith, Option, Some, None, Less, Equal, Greater}
-use Rattle.std.specs.Prelude.{IsTrue, is_some, sum}
+use Rattle.std.proofs.Common.{◌≡◌, ◌⊎◌, inl, inr, ℕ, suc, ◌+◌, ◌<◌, ◌≤◌, Bool, true, false, cond, not, ◌&&◌, ◌||◌, List, [], ◌∷◌, length, refl, sym, ap, ◌∙◌, arith, Some, Less}
+use Rattle.std.specs.Prelude.{IsTrue, is_some}
 use Rattle.std.specs.List.{filter, AllByRecursion}
 use Rattle.std.specs.List.Sorted.{IsStrictlySortedBy}
-use Rattle.std.specs.Ordering.{is_eq, is_lt, eq_by_cmp, ordering_reverse}
+use Rattle.std.specs.Ordering.{is_eq, is_lt, eq_by_cmp}
 use Rattle.std.specs.Cmp.{tied_itself}
-use Rattle.std.specs.FinMap.{get, entries, find, get-entries}
+use Rattle.std.specs.FinMap.{entries, find, get-entries}
 use Rattle.std.proofs.lemmas.List.Sums.{length-filter, count_by-le-length, sum_by-cons}
 use Rattle.std.proofs.lemmas.Map.Keys.{sorted_head, sorted_tail}
 use Rattle.khepri_terms.specs.Terms.{NameText}
 use Rattle.khepri_terms.specs.Order.{name_cmp, path_cmp}
 use Rattle.khepri_terms.proofs.Cases.{and_true}
-use Rattle.khepri_types.specs.declared.node.Node.{Node}
 use Rattle.khepri_types.specs.Paths.{is_front, is_under}
 use Rattle.khepri_types.specs.Tree.{Tree, stands}
 use Rattle.khepri_types.proofs.Fronts.{front_itself}
-use Rattle.khepri_types.proofs.Order.{name_cmp_total, name_cmp-same, path_cmp_total, path_cmp-same}
+use Rattle.khepri_types.proofs.Order.{name_cmp_total, name_cmp-same, path_cmp_total}
 use Rattle.khepri_types.proofs.Trees.{tie_is}
 use Rattle.tree_nodes.specs.Next.{follows}
 use Rattle.worklist_laws.specs.Candidates.{is_in, IsWithin}
-use Rattle.worklist_laws.proofs.Among.{Path, Entry, and_both, in_filter, in_here, in_later, in_cons, not_both, or_either, or_left, or_right, test_false, tie, tied, under_from}
+use Rattle.worklist_laws.proofs.Among.{Path, Entry, and_both, in_filter, in_here, in_later, in_cons, not_both, test_false, tie, tied, under_from}
 use Rattle.keep_while.specs.Costs.{AreApart, below, walks}
 
 -- ---- distinct paths among others
@@ -150,13 +149,13 @@ walks-below T (t ∷ tops) rising apart all =
     let rest = walks-below T tops (sorted_tail path_cmp t tops rising) (apart-less t tops apart) (λ p h. all p (in_later t tops p h)) in
     let here = walk_below T t (all t (in_here t tops)) in
     let never : (q : Path) → is_front t q ≡ true → is_under tops q ≡ true → ⊥ = λ q front under.
-        let a = under_from tops q under in
-        let less : path_cmp t a.path ≡ Less = above_all t tops (sorted_head path_cmp t tops rising) a.path a.listed in
-        let same : t ≡ a.path = elim (fronts_meet t a.path q front a.front) as (λ _. t ≡ a.path) [
-          | inl h ↦ apart t a.path (in_here t tops) (in_later t tops a.path a.listed) h
-          | inr h ↦ sym (apart a.path t (in_later t tops a.path a.listed) (in_here t tops) h)
-        ] in
-        cc (sym less ∙ (ap (path_cmp t) (sym same) ∙ tied_itself path_cmp_total t)) in
+    let a = under_from tops q under in
+    let less : path_cmp t a.path ≡ Less = above_all t tops (sorted_head path_cmp t tops rising) a.path a.listed in
+    let same : t ≡ a.path = elim (fronts_meet t a.path q front a.front) as (λ _. t ≡ a.path) [
+      | inl h ↦ apart t a.path (in_here t tops) (in_later t tops a.path a.listed) h
+      | inr h ↦ sym (apart a.path t (in_later t tops a.path a.listed) (in_here t tops) h)
+    ] in
+    cc (sym less ∙ (ap (path_cmp t) (sym same) ∙ tied_itself path_cmp_total t)) in
     omega (arith, rest, here, beside (is_front t) (is_under tops) (entries T) never, sum_by-cons (λ (p : Path). 1 + below T p) t tops)
 
 -- as many walks as paths

@@ -1,21 +1,20 @@
 -- Which nodes of a tree fail, and a walk over them.
-use Rattle.std.proofs.Common.{◌≡◌, ℕ, ◌+◌, ◌<◌, Bool, true, false, cond, not, ◌||◌, List, [], ◌∷◌, ◌++◌, length, get_or, drop, map, refl, sym, ap, subst, ◌∙◌, append_assoc, arith, Option, Some, None, Bor}
+use Rattle.std.proofs.Common.{◌≡◌, ℕ, ◌+◌, ◌<◌, Bool, true, false, cond, not, ◌||◌, List, [], ◌∷◌, length, get_or, drop, refl, sym, ap, subst, ◌∙◌, arith, Option, Some, None, Bor}
 use Rattle.std.specs.Prelude.{is_some}
-use Rattle.std.specs.List.{filter}
 use Rattle.std.specs.Option.{option_map, option_copied}
-use Rattle.std.proofs.lemmas.List.{append-nil, at_drop_more}
+use Rattle.std.proofs.lemmas.List.{at_drop_more}
 use Rattle.std.specs.FinMap.{get}
 use Rattle.khepri_terms.specs.Terms.{NameText}
 use Rattle.khepri_terms.specs.Order.{path_cmp}
 use Rattle.khepri_types.specs.declared.node.Node.{Node}
 use Rattle.khepri_types.specs.declared.watch.Watch.{Watch}
 use Rattle.khepri_types.specs.Conditions.{seen_at, seen_node}
-use Rattle.khepri_types.specs.Settling.{is_met, is_broken, fails, failing}
+use Rattle.khepri_types.specs.Settling.{is_met, is_broken, fails}
 use Rattle.khepri_types.specs.Tree.{Tree}
 use Rattle.khepri_types.specs.Watching.{first_unmet, unmet_of}
 use Rattle.tree_nodes.specs.Next.{IsNext}
 use Rattle.worklist_laws.specs.Candidates.{fails_node, fails_at}
-use Rattle.tree_nodes.proofs.Walking.{Stands, ahead, walk-begins, walk-goes_on, walk-ends}
+use Rattle.tree_nodes.proofs.Walking.{Stands, ahead, walk-goes_on}
 
 abbrev Path : Type 0
 Path = List NameText

@@ -1,5 +1,5 @@
 -- What the first round notes, and nothing else.
-use Rattle.std.proofs.Common.{◌≡◌, ◌⊎◌, inl, inr, ◌∙◌, Bool, true, false, ◌&&◌, ◌||◌, List, [], ◌∷◌, map, refl, sym, ap, subst, Option, Some, None}
+use Rattle.std.proofs.Common.{◌≡◌, ◌⊎◌, inl, inr, ◌∙◌, true, false, ◌&&◌, ◌||◌, List, [], map, refl, sym, ap, subst, Option, Some, None}
 use Rattle.std.specs.Prelude.{IsTrue}
 use Rattle.std.specs.List.{filter}
 use Rattle.std.specs.Ordering.{is_eq, is_lt}

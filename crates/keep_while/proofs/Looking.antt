@@ -19,7 +19,6 @@ use Rattle.khepri_types.specs.declared.node.Payload.TheVariants.{Empty, Fields}
 use Rattle.khepri_types.specs.declared.view.NodeView.{NodeView}
 use Rattle.khepri_types.specs.declared.watch.Watch.{Watch}
 use Rattle.khepri_types.specs.Conditions.{Seen, last_name, seen_node, seen_at}
-use Rattle.khepri_types.specs.Paths.{is_child}
 use Rattle.khepri_types.specs.Settling.{stable}
 use Rattle.khepri_types.specs.Tree.{Tree, stands, same_payload}
 use Rattle.khepri_types.specs.Views.{as_seen, seen_of}

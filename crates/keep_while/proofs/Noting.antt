@@ -1,5 +1,5 @@
 -- What is noted, and nothing else.
-use Rattle.std.proofs.Common.{◌≡◌, ◌⊎◌, inl, inr, ℕ, ◌+◌, ◌<◌, ◌≤◌, Bool, true, false, cond, not, ◌||◌, List, [], ◌∷◌, ◌++◌, length, take, get_or, refl, sym, ap, subst, ◌∙◌, arith, Option, Some, None}
+use Rattle.std.proofs.Common.{◌≡◌, ◌⊎◌, inl, inr, ℕ, ◌+◌, ◌<◌, Bool, true, false, cond, not, ◌||◌, List, [], ◌∷◌, ◌++◌, length, take, get_or, refl, sym, ap, subst, ◌∙◌, arith, Some}
 use Rattle.std.specs.Prelude.{IsTrue}
 use Rattle.std.specs.List.{filter, list_any, flat_map}
 use Rattle.std.specs.Ordering.{is_eq}
@@ -9,20 +9,18 @@ use Rattle.std.proofs.lemmas.List.Elements.{filter_more}
 use Rattle.std.proofs.lemmas.List.Folds.{list_any_more}
 use Rattle.std.proofs.lemmas.List.Sums.{sum_by_more}
 use Rattle.khepri_terms.specs.Order.{path_cmp}
-use Rattle.khepri_types.specs.declared.node.Node.{Node}
-use Rattle.khepri_types.specs.Conditions.{seen_at}
 use Rattle.khepri_types.specs.Paths.{is_child, is_front, is_under}
 use Rattle.khepri_types.specs.Tree.{Tree, IsTree, stands}
 use Rattle.khepri_types.proofs.Fronts.{front_itself, child_taken, child_long}
 use Rattle.tree_nodes.specs.Next.{IsNext}
 use Rattle.tree_nodes.proofs.Walking.{Stands, ahead, walk-goes_on}
 use Rattle.worklist_laws.specs.Candidates.{is_in, IsWithin}
-use Rattle.worklist_laws.specs.Changes.{changed_paths, is_near}
-use Rattle.worklist_laws.proofs.Among.{Path, Entry, from_flat, in_append, in_cons, in_filter, in_flat, in_here, in_left, in_right, or_either, or_left, or_right, tie, tied}
+use Rattle.worklist_laws.specs.Changes.{is_near}
+use Rattle.worklist_laws.proofs.Among.{Path, Entry, from_flat, in_append, in_filter, in_flat, in_here, in_left, in_right, or_either, or_left, or_right, tie, tied}
 use Rattle.worklist_laws.proofs.Changing.{near-changed}
-use Rattle.keep_while.specs.Costs.{below, EndsApart, KeepsBelow, KeepsUnder, OnlyAbove, OnlyAsks, OnlyBelow, OnlyNear, walks}
+use Rattle.keep_while.specs.Costs.{below, KeepsBelow, KeepsUnder, OnlyAbove, OnlyAsks, OnlyBelow, OnlyNear, walks}
 use Rattle.keep_while.specs.Gathering.{without}
-use Rattle.keep_while.proofs.Gathering.{Walked, walked-begins, walked-more, within-on}
+use Rattle.keep_while.proofs.Gathering.{within-on}
 
 -- ---- one path, and several
 
@@ -130,11 +128,13 @@ stands-more T tops i top old mid new tree lt is was above on all q h =
     elim (on mine q h) as (λ _. Stands T q × IsTrue (is_near (take (i + 1) tops) q)) [
       | inl before ↦ elim (above q before) as (λ _. Stands T q × IsTrue (is_near (take (i + 1) tops) q)) [
         | inl earlier ↦
-            let w = was (λ p g. all p (in_earlier p g)) q earlier in
-            (w.0, elim (or_either (is_under (take i tops) q) (list_any (λ p. is_child q p) (take i tops)) w.1) as (λ _. IsTrue (is_near (take (i + 1) tops) q)) [
-              | inl a ↦ or_left (is_under (take (i + 1) tops) q) (list_any (λ p. is_child q p) (take (i + 1) tops)) (under ∙ or_left (is_under (take i tops) q) (is_front top q) a)
-              | inr b ↦ or_right (is_under (take (i + 1) tops) q) (list_any (λ p. is_child q p) (take (i + 1) tops)) (child ∙ or_left (list_any (λ p. is_child q p) (take i tops)) (is_child q top) b)
-            ])
+            let w = was (λ p g. all p (in_earlier p g)) q earlier in (
+              w.0,
+              elim (or_either (is_under (take i tops) q) (list_any (λ p. is_child q p) (take i tops)) w.1) as (λ _. IsTrue (is_near (take (i + 1) tops) q)) [
+                | inl a ↦ or_left (is_under (take (i + 1) tops) q) (list_any (λ p. is_child q p) (take (i + 1) tops)) (under ∙ or_left (is_under (take i tops) q) (is_front top q) a)
+                | inr b ↦ or_right (is_under (take (i + 1) tops) q) (list_any (λ p. is_child q p) (take (i + 1) tops)) (child ∙ or_left (list_any (λ p. is_child q p) (take i tops)) (is_child q top) b)
+              ],
+            )
         | inr parent ↦ (tree-parent T tree q top parent mine, or_right (is_under (take (i + 1) tops) q) (list_any (λ p. is_child q p) (take (i + 1) tops)) (child ∙ or_right (list_any (λ p. is_child q p) (take i tops)) (is_child q top) parent))
       ]
       | inr below ↦ (below.0, or_left (is_under (take (i + 1) tops) q) (list_any (λ p. is_child q p) (take (i + 1) tops)) (under ∙ or_right (is_under (take i tops) q) (is_front top q) below.1))

@@ -1,25 +1,24 @@
 -- What the rounds cost.
-use Rattle.std.proofs.Common.{◌≡◌, ◌⊎◌, inl, inr, ℕ, ◌+◌, ◌*◌, ◌-◌, ◌<◌, ◌≤◌, Bool, true, false, cond, not, ◌||◌, List, [], ◌∷◌, ◌++◌, length, map, refl, sym, ap, subst, ◌∙◌, arith, Option, Some, None}
+use Rattle.std.proofs.Common.{◌≡◌, inl, inr, ℕ, ◌+◌, ◌*◌, ◌-◌, ◌≤◌, Bool, true, false, cond, not, List, [], ◌∷◌, ◌++◌, length, refl, sym, ap, subst, ◌∙◌, arith, Option, Some, None}
 use Rattle.std.specs.Prelude.{IsTrue, is_some}
 use Rattle.std.specs.List.{filter, flat_map}
 use Rattle.std.specs.List.Sorted.{IsStrictlySortedBy}
-use Rattle.std.specs.Ordering.{is_eq}
 use Rattle.std.specs.FinMap.{get, entries, len, len-entries}
 use Rattle.std.proofs.lemmas.List.Filters.{length-filter_both}
 use Rattle.khepri_terms.specs.Order.{path_cmp}
 use Rattle.khepri_types.specs.declared.node.Node.{Node}
 use Rattle.khepri_types.specs.Drop.{drop, loses_child}
 use Rattle.khepri_types.specs.Paths.{is_under}
-use Rattle.khepri_types.specs.Settling.{failing, stable, are_none}
+use Rattle.khepri_types.specs.Settling.{failing, stable}
 use Rattle.khepri_types.specs.Tree.{Tree, stands, raised_children}
 use Rattle.khepri_types.proofs.Dropping.{stays, len-left, left}
 use Rattle.tree_nodes.specs.Drafts.{Drafted, IsCovered}
-use Rattle.worklist_laws.specs.Candidates.{is_in, IsWithin, IsEnough, SameBelow, tested, watchers, watches_at, aims_node}
+use Rattle.worklist_laws.specs.Candidates.{is_in, IsWithin, SameBelow, tested, watchers, watches_at, aims_node}
 use Rattle.worklist_laws.specs.Changes.{changed_paths}
-use Rattle.worklist_laws.specs.Counts.{watching, round_changes, round_watching, settling_changes, settling_watching, reads_left}
+use Rattle.worklist_laws.specs.Counts.{watching, round_watching, reads_left}
 use Rattle.worklist_laws.specs.Index.{IsIndex}
 use Rattle.worklist_laws.proofs.Among.{Path, Entry, from_flat, in_append, in_filter, in_filtered, in_flat, in_left, in_right, not_both, passes_filter, test_false}
-use Rattle.worklist_laws.proofs.Candidates.{changed-same, drop-same, tested-below}
+use Rattle.worklist_laws.proofs.Candidates.{changed-same, drop-same}
 use Rattle.worklist_laws.proofs.Changing.{len-changed}
 use Rattle.worklist_laws.proofs.Counting.{listed, round-paid}
 use Rattle.worklist_laws.proofs.Indexing.{watchers-in, in-watchers, watchers-drop}
@@ -115,8 +114,8 @@ next-few : (T : Tree) (tops changed set : List Path) (of : Path → List Path) �
 next-few T tops changed set of watch within same only sorted =
     let paths = changed_paths T (failing T) in
     let mine : IsWithin set (flat_map (watchers T) paths) = λ p h.
-        let f = from_flat of changed p (only p h) in
-        in_flat (watchers T) paths f.0 p (subst (λ (ps : List Path). IsTrue (is_in ps f.0)) same (within f.0 f.1)) (watch f.0 p f.2) in
+    let f = from_flat of changed p (only p h) in
+    in_flat (watchers T) paths f.0 p (subst (λ (ps : List Path). IsTrue (is_in ps f.0)) same (within f.0 f.1)) (watch f.0 p f.2) in
     omega (arith, no_more set (flat_map (watchers T) paths) sorted mine, watched T paths)
 
 -- ---- few watches

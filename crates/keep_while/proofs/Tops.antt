@@ -1,10 +1,9 @@
 -- Paths in order of which none is below another.
-use Rattle.std.proofs.Common.{◌≡◌, ◌⊎◌, inl, inr, ◌∙◌, Bool, true, false, List, [], ◌∷◌, ◌++◌, refl, sym, ap, subst, Less, Equal, Greater}
+use Rattle.std.proofs.Common.{◌≡◌, inl, inr, ◌∙◌, true, false, List, [], ◌∷◌, ◌++◌, refl, sym, ap, subst, Less, Greater}
 use Rattle.std.specs.Prelude.{IsTrue}
 use Rattle.std.specs.List.{AllByRecursion}
 use Rattle.std.specs.List.Sorted.{IsStrictlySortedBy}
 use Rattle.std.specs.Ordering.{is_lt, ordering_reverse}
-use Rattle.std.specs.declared.cmp.Ordering.{Ordering}
 use Rattle.std.specs.Cmp.{tied_itself}
 use Rattle.std.proofs.lemmas.Map.Keys.{sorted_head, sorted_tail}
 use Rattle.khepri_terms.specs.Order.{path_cmp}

@@ -14,9 +14,9 @@ ghost use Rattle.keep_while.specs.Costs.{AreAnew, IsFirst, LinksTouched, OnlyAne
 ghost use Rattle.keep_while.specs.Gathering.{AreOut, asked, both, IsShownAlike, LooksAt, NotesAbove};
 
 use crate::gather::{Out, note, parent, watching};
-use reverse_watch::Watchers;
 use khepri_terms::Path;
 use khepri_types::NodeView;
+use reverse_watch::Watchers;
 use std::alloc::AllocError;
 use std::collections::BTreeSet;
 use std::sync::ledger::Ledger;

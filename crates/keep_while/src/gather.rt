@@ -11,9 +11,9 @@ ghost use Rattle.worklist_laws.specs.Links.{linked_to};
 ghost use Rattle.keep_while.specs.Costs.{AreApart, below, EndsApart, KeepsBelow, KeepsUnder, OnlyAbove, OnlyAsks, OnlyBelow, OnlyNear, walks};
 ghost use Rattle.keep_while.specs.Gathering.{Asks, asked, GoesUnder, HasAbove, HasBelow, HasFewWatches, HasNear, without};
 
-use reverse_watch::Watchers;
 use crate::unmet::fails;
 use khepri_terms::Path;
+use reverse_watch::Watchers;
 use std::alloc::AllocError;
 use std::collections::BTreeSet;
 use std::sync::ledger::Ledger;

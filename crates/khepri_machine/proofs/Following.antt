@@ -15,7 +15,7 @@ use Rattle.khepri_types.specs.declared.node.Payload.TheVariants.{Empty}
 use Rattle.khepri_types.specs.Tree.{Tree, fresh, opening_tree}
 use Rattle.khepri_types.proofs.Order.{path_cmp_total, path_cmp-same}
 use Rattle.khepri_types.proofs.Rounds.{settle-ends}
-use Rattle.tree_nodes.specs.Drafts.{IsTouched, IsCovered}
+use Rattle.tree_nodes.specs.Drafts.{Drafted, IsTouched, IsCovered}
 use Rattle.tree_nodes.specs.Next.{IsNext, follows}
 use Rattle.worklist_laws.specs.Candidates.{is_in}
 use Rattle.worklist_laws.specs.Links.{Links, linked, targets, unlinked, targets_at, targets_of, HoldsWatches}
@@ -134,3 +134,15 @@ noted-all B D touched after paths was none covered q off =
 
 pub settled-stable : (T U : Tree) → U ≡ settle T → IsTrue (stable U)
 settled-stable T U is = ap stable is ∙ settle-ends T
+
+-- what a settled draft came to is over the tree that it began from
+pub is-over : (D E C : Drafted) (paths : List Path) → E.base ≡ D.base → E.tree ≡ settle D.tree → C.base ≡ E.base → C.tree ≡ E.tree → IsCovered E.base E.tree paths → (D.base ≡ C.base) × IsTrue (stable C.tree) × IsCovered D.base C.tree paths
+is-over D E C paths base tree base' tree' covered = (
+  sym (base' ∙ base),
+  settled-stable D.tree C.tree (tree' ∙ tree),
+  subst (λ (T : Tree). IsCovered D.base T paths) (sym tree') (subst (λ (T : Tree). IsCovered T E.tree paths) base covered),
+)
+
+-- an index that followed the tree at the touched paths holds its watches
+pub followed-over : (B D : Tree) (paths : List Path) (T U : Tree) (old new : Links) → B ≡ T → D ≡ U → HoldsWatches B old → IsCovered B U paths → Follows D paths old new → HoldsWatches D new
+followed-over B D paths T U old new base tree holds covered f = followed B D paths old new holds (subst (λ (V : Tree). IsCovered B V paths) (sym tree) covered) f

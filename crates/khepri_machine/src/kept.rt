@@ -1,5 +1,5 @@
 // The state, with the index of its watches.
-ghost use Rattle.std.specs.Prelude.{◌≡◌, ◌<◌, ◌≤◌, ◌^◌, false, IsTrue, IfOk, length};
+ghost use Rattle.std.specs.Prelude.{◌≡◌, ◌<◌, ◌≤◌, ◌^◌, [], false, IsTrue, IfOk, length};
 ghost use Rattle.khepri_types.specs.declared.command.Command.TheVariants as command;
 ghost use Rattle.khepri_types.specs.declared.limits.TheConstants.{MAX_PATH_NAMES};
 ghost use Rattle.khepri_types.specs.Exec.{exec_command, opening_state, write, dropped};
@@ -76,7 +76,7 @@ impl Kept {
     ) -> Result<(Reply, Kept), AllocError>
         requires room { self.position < 2 ^ 40 }
         requires over { IsOver self.tree outcome }
-        ensures { IfOk result (λ r. reply_and_next self.entry outcome ≡ (r.0, r.1)) }
+        ensures { IfOk result (λ r. reply_and_next self outcome ≡ (r.0, r.1)) }
     {
         let mut kept = self;
         match outcome {

@@ -1,6 +1,4 @@
-use Rattle.std.proofs.Common.{◌≡◌, List, []}
 use Rattle.std.specs.List.Sorted.{IsStrictlySortedBy}
-use Rattle.khepri_terms.specs.Terms.{NameText}
 use Rattle.khepri_terms.specs.Order.{path_cmp}
 use Rattle.worklist_laws.specs.Links.{linked_to}
 use Rattle.worklist_laws.specs.Candidates.{IsWithin, IsEnough, ListsAll}

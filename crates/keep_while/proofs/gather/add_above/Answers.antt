@@ -1,4 +1,4 @@
-use Rattle.std.proofs.Common.{◌≡◌, ◌||◌, List, sym}
+use Rattle.std.proofs.Common.{◌≡◌, ◌||◌, List}
 use Rattle.std.specs.Ordering.{is_eq}
 use Rattle.std.proofs.lemmas.Result.{on_ok_weaker}
 use Rattle.khepri_terms.specs.Terms.{NameText}

@@ -1,4 +1,4 @@
-use Rattle.std.proofs.Common.{◌∙◌, sym, ap, Some, arith}
+use Rattle.std.proofs.Common.{ap, Some}
 use Rattle.khepri_terms.proofs.Cases.{some_is}
 use Rattle.khepri_types.specs.Paths.{is_child}
 use Rattle.std.proofs.Common.{subst, ◌≡◌, List, true}

@@ -1,10 +1,9 @@
-use Rattle.std.proofs.Common.{◌≡◌, ◌∙◌, ◌+◌, ◌-◌, ℕ, List, [], length, false, sym, ap, subst, arith}
+use Rattle.std.proofs.Common.{◌≡◌, ◌∙◌, ◌+◌, ◌-◌, List, [], length, false, sym, ap, subst, arith}
 use Rattle.std.specs.Prelude.{IsTrue}
-use Rattle.std.specs.FinMap.{len}
 use Rattle.khepri_terms.specs.Terms.{NameText}
 use Rattle.khepri_types.specs.Drop.{drop}
 use Rattle.khepri_types.specs.Paths.{is_under}
-use Rattle.khepri_types.specs.Settling.{failing, stable}
+use Rattle.khepri_types.specs.Settling.{failing}
 use Rattle.khepri_types.specs.Tree.{stands}
 use Rattle.worklist_laws.specs.Candidates.{is_in, IsWithin, SameBelow}
 use Rattle.worklist_laws.specs.Changes.{changed_paths}

@@ -1,4 +1,3 @@
-use Rattle.std.proofs.Common.{List}
 use Rattle.std.proofs.lemmas.Result.{on_ok_weaker}
 use Rattle.std.specs.Prelude.{ℕ}
 use Rattle.keep_while.specs.Costs.{IsPaidFor, IsPaidSoFar}

@@ -1,0 +1,1 @@
+use Rattle.khepri_machine.proofs.kept.Kept.apply.Goals as goal
