@@ -16,8 +16,7 @@ use Rattle.khepri_machine.proofs.scan.find.Goals as goal
 
 pub nodes-init : goal.nodes-init
 nodes-init g c =
-    let T = c.in_ok-walk.walk.tree in
-    (
+    let T = c.in_ok-walk.walk.tree in (
       [],
       subst (λ (o : Option (List NameText)). Scanned c.args.pattern.now T 0 o c.start-masks.result []) (sym c.in_ok-walk.ensures.begins) (scan-begins c.args.pattern.now T c.start-masks.result (c.start-masks.ensures T)),
       lists-none T c.args.limit (record { count = 0; nodes = c.new.result }) refl c.new.ensures.items,
@@ -52,22 +51,20 @@ nodes-preserved g c =
     let same : to.tree ≡ c.args.tree.now = c.visit-node.ensures.tree ∙ i.3 in
     elim c.if-accepts.branch [
       | then-accepts+in_ok-add w ↦
-          let es : List Entry = i.0 ++ (q, next.0) ∷ [] in
-          (
+          let es : List Entry = i.0 ++ (q, next.0) ∷ [] in (
             es,
             on es (scan-taken parts T c.nodes.counter c.nodes.walk.last c.nodes.masks masks i.0 q next i.1 c.visit-node.ensures.masks (sym told ∙ w.if-accepts.true)),
             subst (λ (U : Tree). Lists U c.args.limit es c.if-accepts.found) (sym c.visit-node.ensures.tree) (subst (λ (f : Found). Lists T c.args.limit es f) (sym w.found-is) (w.in_ok-add.ensures T i.0 next.0 next.1 c.visit-node.ensures.node i.2)),
             same,
             omega (arith, i.4, c.visit-node.ensures.steps),
           )
-      | else-accepts w ↦
-          (
-            i.0,
-            on i.0 (scan-left parts T c.nodes.counter c.nodes.walk.last c.nodes.masks masks i.0 q next i.1 c.visit-node.ensures.masks (sym told ∙ w.if-accepts.false)),
-            subst (λ (U : Tree). Lists U c.args.limit i.0 c.if-accepts.found) (sym c.visit-node.ensures.tree) (subst (λ (f : Found). Lists T c.args.limit i.0 f) (sym w.found-is) i.2),
-            same,
-            omega (arith, i.4, c.visit-node.ensures.steps),
-          )
+      | else-accepts w ↦ (
+        i.0,
+        on i.0 (scan-left parts T c.nodes.counter c.nodes.walk.last c.nodes.masks masks i.0 q next i.1 c.visit-node.ensures.masks (sym told ∙ w.if-accepts.false)),
+        subst (λ (U : Tree). Lists U c.args.limit i.0 c.if-accepts.found) (sym c.visit-node.ensures.tree) (subst (λ (f : Found). Lists T c.args.limit i.0 f) (sym w.found-is) i.2),
+        same,
+        omega (arith, i.4, c.visit-node.ensures.steps),
+      )
     ]
 
 pub returns-clause-count : goal.returns-clause-count

@@ -12,8 +12,7 @@ use Rattle.khepri_machine.proofs.scan.matching.Goals as goal
 
 pub nodes-init : goal.nodes-init
 nodes-init g c =
-    let T = c.in_ok-walk.walk.tree in
-    (
+    let T = c.in_ok-walk.walk.tree in (
       [],
       subst (λ (o : Option (List NameText)). Scanned c.args.pattern.now T 0 o c.start-masks.result []) (sym c.in_ok-walk.ensures.begins) (scan-begins c.args.pattern.now T c.start-masks.result (c.start-masks.ensures T)),
       c.new-paths.ensures.items,
@@ -45,22 +44,20 @@ nodes-preserved g c =
     let same : to.tree ≡ c.args.tree.now = c.visit.ensures.tree ∙ i.3 in
     elim c.if-accepts.branch [
       | then-accepts+in_ok-path+in_ok-push w ↦
-          let es : List Entry = i.0 ++ (q, next.0) ∷ [] in
-          (
+          let es : List Entry = i.0 ++ (q, next.0) ∷ [] in (
             es,
             on es (scan-taken parts T c.nodes.counter c.nodes.walk.last c.nodes.masks masks i.0 q next i.1 c.visit.ensures.masks (sym told ∙ w.if-accepts.true)),
             ap (λ v. v.items) w.paths-is ∙ (w.in_ok-push.ensures.items ∙ paths-more i.0 (q, next.0) c.nodes.paths.items w.in_ok-path.field-0 i.2 w.in_ok-path.ensures),
             same,
             omega (arith, i.4, c.visit.ensures.steps),
           )
-      | else-accepts w ↦
-          (
-            i.0,
-            on i.0 (scan-left parts T c.nodes.counter c.nodes.walk.last c.nodes.masks masks i.0 q next i.1 c.visit.ensures.masks (sym told ∙ w.if-accepts.false)),
-            ap (λ v. v.items) w.paths-is ∙ i.2,
-            same,
-            omega (arith, i.4, c.visit.ensures.steps),
-          )
+      | else-accepts w ↦ (
+        i.0,
+        on i.0 (scan-left parts T c.nodes.counter c.nodes.walk.last c.nodes.masks masks i.0 q next i.1 c.visit.ensures.masks (sym told ∙ w.if-accepts.false)),
+        ap (λ v. v.items) w.paths-is ∙ i.2,
+        same,
+        omega (arith, i.4, c.visit.ensures.steps),
+      )
     ]
 
 pub returns-clause-paths : goal.returns-clause-paths
