@@ -19,7 +19,10 @@ pub fn said(alloc: Global, kept: &Kept) -> Result<String, AllocError> {
     let (base, base_term) = kept.log.base();
     let (last, _) = kept.log.last();
     let (term, vote) = (kept.term, kept.vote);
-    write!(out, "term={term} vote={vote} base={base}/{base_term} last={last} entries=")?;
+    write!(
+        out,
+        "term={term} vote={vote} base={base}/{base_term} last={last} entries="
+    )?;
     push_entries(alloc, &mut out, &kept.log)?;
     write!(out, " snapshot=")?;
     push_snapshot(alloc, &mut out, &kept.snapshot)?;
