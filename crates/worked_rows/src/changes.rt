@@ -38,13 +38,13 @@ fn text_at(number: u64) -> &'static [u8] {
     }
 }
 
-fn path_at(alloc: Global, number: u64) -> Result<Path, TextFault> {
+pub(crate) fn path_at(alloc: Global, number: u64) -> Result<Path, TextFault> {
     let (path, _) = Path::read(alloc, text_at(number))?;
     Ok(path)
 }
 
 // The next number of a generator, below a bound.
-fn draw(seed: &mut u64, bound: u64) -> u64 {
+pub(crate) fn draw(seed: &mut u64, bound: u64) -> u64 {
     *seed = seed
         .wrapping_mul(6364136223846793005)
         .wrapping_add(1442695040888963407);

@@ -19,6 +19,8 @@ mod logs;
 #[cfg(test)]
 mod nodes;
 #[cfg(test)]
+mod settling;
+#[cfg(test)]
 mod stores;
 #[cfg(test)]
 mod tables;
