@@ -1,2 +1,1 @@
 mod RootPattern
-mod Sparing

@@ -32,7 +32,7 @@ const ENTRIES: u64 = 1 << 40;
 fn plain_put<L: Ledger>(
     tree: &mut Tree,
     path: &Path,
-    watches: &[Watch],
+    watches: &Watches,
     steps: &mut Steps<L>,
 ) -> Result<Option<(u64, u64)>, AllocError> {
     if path.len() > MAX_PATH_NAMES {
@@ -117,12 +117,14 @@ fn put_both<L: Ledger>(
     steps: &mut Steps<L>,
 ) -> Result<bool, TextFault> {
     let path = path_at(alloc, draw(seed, PATHS))?;
-    let watches = some_watches(alloc, seed)?;
-    let plain = plain_put(tree, &path, watches.as_slice(), steps)?;
+    let Some(watches) = Watches::from_vec(some_watches(alloc, seed)?) else {
+        return Ok(false);
+    };
+    let plain = plain_put(tree, &path, &watches, steps)?;
     let put = Command::Put {
         path,
         payload: Payload::Empty,
-        watch: Watching::While(Watches::from_vec(watches)),
+        watch: Watching::While(watches),
     };
     Ok(agrees(&asked(machine, &put)?, plain))
 }

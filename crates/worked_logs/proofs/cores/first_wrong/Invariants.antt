@@ -1,7 +1,7 @@
 -- The three nodes are nodes 1, 2 and 3 of three.
 use Rattle.std.proofs.Common.{◌≡◌, ℕ}
 use Rattle.raft_types.specs.Core.{CoreParts}
-use Rattle.worked_rows.proofs.cores.first_wrong.Given as goal
+use Rattle.worked_logs.proofs.cores.first_wrong.Given as goal
 
 -- this node of three
 pub record IsNode (c : CoreParts) (id : ℕ) : Type 0 where

@@ -1,4 +1,4 @@
-use Rattle.worked_rows.proofs.changes.turns_once.Given as goal
+use Rattle.worked_trees.proofs.changes.turns_once.Given as goal
 
 abbrev pub ghosts-turns : goal.ghosts-turns
 ghosts-turns a = record { name = a.blank.name; parts = a.blank.parts }

@@ -8,7 +8,7 @@ use Rattle.khepri_types.specs.Tree.{Tree, IsTree}
 use Rattle.khepri_types.proofs.Standing.{tree-opening}
 use Rattle.tree_nodes.specs.Drafts.{IsShallow}
 use Rattle.tree_nodes.proofs.Laying.{shallow-opening}
-use Rattle.worked_rows.proofs.nodes.tree_of_a_root.Goals as goal
+use Rattle.worked_trees.proofs.nodes.tree_of_a_root.Goals as goal
 
 -- the tree of one empty node
 abbrev one : List NameText → List Watch → Tree

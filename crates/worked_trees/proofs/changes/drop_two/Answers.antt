@@ -1,6 +1,6 @@
 use Rattle.std.proofs.Common.{◌∙◌, arith}
-use Rattle.worked_rows.proofs.Sparing.{both_below_root}
-use Rattle.worked_rows.proofs.changes.drop_two.Goals as goal
+use Rattle.worked_trees.proofs.Sparing.{both_below_root}
+use Rattle.worked_trees.proofs.changes.drop_two.Goals as goal
 
 pub drop_all-requires : goal.drop_all-requires
 drop_all-requires g c = record {

@@ -1,22 +1,23 @@
-// Three cores over empty logs.
+// Three cores over empty logs, which run the scripts.
 ghost use Rattle.std.specs.Prelude.{◌≡◌, ◌≤◌, All, IfOk, OnOk};
 ghost use Rattle.std.specs.Bool.{OnTrue};
 ghost use Rattle.raft_types.specs.declared.limits.TheConstants.{MAX_TERM as TERMS_END};
 ghost use Rattle.raft_types.specs.declared.state.Role.TheVariants.{Leader};
 ghost use Rattle.raft_types.specs.Fits.{TermsFit, IndexesFit, HeldFits, MessageFits, HasRoom, EventFits};
 
-use crate::core_steps::{Does, LOSSES, RULES, Says, Step};
+use crate::losses::LOSSES;
+use crate::rules::RULES;
+use crate::script::{Does, Few, Says, State, Step, Tells};
+use crate::telling::{entries_told, tells_acts};
 use raft_core::node::Core;
 use raft_log::log::Log;
 use raft_types::bytes::Bytes;
 use raft_types::entry::{Entries, LogEntry};
 use raft_types::event::{Acts, CoreEvent};
-use raft_types::item::Item;
 use raft_types::limits::{MAX_INDEX, MAX_TERM};
 use raft_types::message::{Body, Message};
 use raft_types::state::Role;
 use std::alloc::{AllocError, Global};
-use std::test::Fail;
 
 fn is_leader(core: &Core) -> bool
     ensures { OnTrue result (core.now.role ≡ Leader) }
@@ -208,48 +209,34 @@ fn meets_at(cores: &mut Cores, id: u8, event: CoreEvent) -> Result<Option<Acts>,
     }
 }
 
-fn entries_of(alloc: Global, entries: &[(u64, u8)]) -> Result<Entries, AllocError> {
-    let mut made = Vec::new(alloc);
-    for (term, byte) in entries {
-        let entry = Bytes::from_slice(alloc, &[*byte])?;
-        made.push(LogEntry { term: *term, entry })?;
+fn entries_of(alloc: Global, few: Few<(u64, u8)>) -> Result<Entries, AllocError> {
+    let mut entries = Vec::new(alloc);
+    for place in 0..3 {
+        if let Some((term, byte)) = few.get(place) {
+            let entry = Bytes::from_slice(alloc, &[byte])?;
+            entries.push(LogEntry { term, entry })?;
+        }
     }
-    Ok(Entries::from_vec(made))
+    Ok(Entries::from_vec(entries))
 }
 
 fn body_of(alloc: Global, says: Says) -> Result<Body, AllocError> {
     Ok(match says {
-        Says::Vote {
-            term,
-            last_index,
-            last_term,
-        } => Body::Vote {
+        Says::Vote(term, last_index, last_term) => Body::Vote {
             term,
             last_index,
             last_term,
         },
-        Says::VoteReply { term, granted } => Body::VoteReply { term, granted },
-        Says::Append {
-            term,
-            prev_index,
-            prev_term,
-            entries,
-            commit,
-        } => Body::Append {
+        Says::VoteReply(term, granted) => Body::VoteReply { term, granted },
+        Says::Append(term, prev_index, prev_term, entries, commit) => Body::Append {
             term,
             prev_index,
             prev_term,
             entries: entries_of(alloc, entries)?,
             commit,
         },
-        Says::AppendReply { term, ok, index } => Body::AppendReply { term, ok, index },
-        Says::Chunk {
-            term,
-            index,
-            base_term,
-            offset,
-            total,
-        } => Body::Chunk {
+        Says::AppendReply(term, ok, index) => Body::AppendReply { term, ok, index },
+        Says::Chunk(term, index, base_term, offset, total) => Body::Chunk {
             term,
             index,
             base_term,
@@ -257,11 +244,7 @@ fn body_of(alloc: Global, says: Says) -> Result<Body, AllocError> {
             total,
             bytes: Bytes::from_vec(Vec::new(alloc)),
         },
-        Says::ChunkReply {
-            term,
-            index,
-            offset,
-        } => Body::ChunkReply {
+        Says::ChunkReply(term, index, offset) => Body::ChunkReply {
             term,
             index,
             offset,
@@ -301,13 +284,7 @@ fn event_of(
             Some((id, CoreEvent::Command(Bytes::from_slice(alloc, &[byte])?)))
         }
         Does::Fire(id, byte) => Some((id, CoreEvent::Fire(Bytes::from_slice(alloc, &[byte])?))),
-        Does::Hears {
-            from,
-            to,
-            says,
-            applied,
-            held,
-        } => {
+        Does::Hears(from, to, says, applied, held) => {
             let message = Message {
                 from,
                 to,
@@ -385,116 +362,6 @@ fn compact_at(cores: &mut Cores, id: u8, index: u64, snapshot_len: u64)
     }
 }
 
-fn byte_of(entry: &[u8]) -> u8 {
-    match entry {
-        [byte] => *byte,
-        _ => 0,
-    }
-}
-
-fn tell_item(out: &mut String, item: &Item) -> Result<(), AllocError> {
-    match item {
-        Item::Snap { index, term } => write!(out, " S {index} {term}"),
-        Item::Vote { term, vote } => write!(out, " V {term} {vote}"),
-        Item::Entry { index, term, entry } => {
-            let byte = byte_of(entry.as_slice());
-            write!(out, " E {index} {term} {byte}")
-        }
-    }
-}
-
-fn tell_entries(out: &mut String, entries: &[LogEntry]) -> Result<(), AllocError> {
-    for entry in entries {
-        let term = entry.term;
-        let byte = byte_of(entry.entry.as_slice());
-        write!(out, "{term}:{byte} ")?;
-    }
-    Ok(())
-}
-
-fn grant_word(granted: bool) -> &'static str {
-    if granted {
-        return "grant";
-    }
-    "deny"
-}
-
-fn took_word(ok: bool) -> &'static str {
-    if ok {
-        return "took";
-    }
-    "not"
-}
-
-fn tell_body(out: &mut String, body: &Body) -> Result<(), AllocError> {
-    match body {
-        Body::Vote {
-            term,
-            last_index,
-            last_term,
-        } => { write!(out, "vote {term} {last_index} {last_term}") }
-        Body::VoteReply { term, granted } => {
-            let word = grant_word(*granted);
-            write!(out, "{word} {term}")
-        }
-        Body::Append {
-            term,
-            prev_index,
-            prev_term,
-            entries,
-            commit,
-        } => {
-            write!(out, "append {term} {prev_index} {prev_term} [")?;
-            tell_entries(out, entries.as_slice())?;
-            write!(out, "] {commit}")
-        }
-        Body::AppendReply { term, ok, index } => {
-            let word = took_word(*ok);
-            write!(out, "{word} {term} {index}")
-        }
-        Body::Chunk {
-            term,
-            index,
-            base_term,
-            offset,
-            total,
-            ..
-        } => { write!(out, "chunk {term} {index} {base_term} {offset} {total}") }
-        Body::ChunkReply {
-            term,
-            index,
-            offset,
-        } => write!(out, "holds {term} {index} {offset}"),
-    }
-}
-
-fn tell_message(out: &mut String, message: &Message) -> Result<(), AllocError> {
-    let from = message.from;
-    let to = message.to;
-    write!(out, ", {from} to {to} ")?;
-    tell_body(out, &message.body)
-}
-
-fn role_word(role: Role) -> &'static str {
-    match role {
-        Role::Follower => "Follower",
-        Role::Candidate => "Candidate",
-        Role::Leader => "Leader",
-    }
-}
-
-fn tell_acts(out: &mut String, acts: &Acts) -> Result<(), AllocError> {
-    for item in acts.items.as_slice() {
-        tell_item(out, item)?;
-    }
-    for message in acts.messages.as_slice() {
-        tell_message(out, message)?;
-    }
-    let role = role_word(acts.role);
-    let commit = acts.commit;
-    write!(out, "; {role} {commit}")
-}
-
 fn fly(alloc: Global, flight: &mut Vec<Message>, messages: &[Message]) -> Result<(), AllocError> {
     for message in messages {
         flight.push(message.copy(alloc)?)?;
@@ -502,25 +369,30 @@ fn fly(alloc: Global, flight: &mut Vec<Message>, messages: &[Message]) -> Result
     Ok(())
 }
 
-// The node's state, and its log.
-fn show(alloc: Global, out: &mut String, core: &Core) -> Result<(), AllocError> {
+// The node's state, and its log; nothing where its log has more entries than scripts have.
+fn show(core: &Core) -> Result<Option<Tells>, AllocError> {
     let state = core.state();
-    let (base, base_term) = core.log().base();
-    let (term, vote, leader, commit) = (state.term, state.vote, state.leader, state.commit);
-    let role = role_word(state.role);
-    write!(
-        out,
-        " {term} {vote} {role} {leader} {commit} {base} {base_term} ["
-    )?;
-    if base < MAX_INDEX {
-        let entries = core.log().batch(base + 1, 64)?;
-        tell_entries(out, entries.as_slice())?;
+    let log = core.log();
+    let (base, base_term) = log.base();
+    if MAX_INDEX <= base {
+        return Ok(None);
     }
-    write!(out, "]")
+    let entries = log.batch(base + 1, 64)?;
+    let Some(entries) = entries_told(entries.as_slice()) else {
+        return Ok(None);
+    };
+    let shown = State(
+        state.term,
+        state.vote,
+        state.role,
+        state.leader,
+        state.commit,
+    );
+    Ok(Some(Tells::State(shown, (base, base_term), entries)))
 }
 
-// An event of a node: what it tells, and its messages are in flight.
-fn meet(alloc: Global, out: &mut String, cores: &mut Cores, does: Does) -> Result<(), AllocError>
+// An event of a node: what it tells, and its messages are in flight. Nothing where there is no event, or it does not fit.
+fn meet(alloc: Global, cores: &mut Cores, does: Does) -> Result<Option<Tells>, AllocError>
     requires one { (cores.old.one.id ≡ 1) × (cores.old.one.nodes ≡ 3) }
     requires two { (cores.old.two.id ≡ 2) × (cores.old.two.nodes ≡ 3) }
     requires three { (cores.old.three.id ≡ 3) × (cores.old.three.nodes ≡ 3) }
@@ -529,17 +401,17 @@ fn meet(alloc: Global, out: &mut String, cores: &mut Cores, does: Does) -> Resul
     ensures three { OnOk result ((cores.new.three.id ≡ 3) × (cores.new.three.nodes ≡ 3)) }
 {
     let Some((id, event)) = event_of(alloc, cores, does)? else {
-        return write!(out, "no event");
+        return Ok(None);
     };
     let Some(acts) = meets_at(cores, id, event)? else {
-        return write!(out, "no fit");
+        return Ok(None);
     };
     fly(alloc, &mut cores.flight, acts.messages.as_slice())?;
-    tell_acts(out, &acts)
+    Ok(tells_acts(&acts))
 }
 
-// Does one thing.
-fn act(alloc: Global, out: &mut String, cores: &mut Cores, does: Does) -> Result<(), AllocError>
+// Does one thing, and gives what it tells.
+fn act(alloc: Global, cores: &mut Cores, does: Does) -> Result<Option<Tells>, AllocError>
     requires one { (cores.old.one.id ≡ 1) × (cores.old.one.nodes ≡ 3) }
     requires two { (cores.old.two.id ≡ 2) × (cores.old.two.nodes ≡ 3) }
     requires three { (cores.old.three.id ≡ 3) × (cores.old.three.nodes ≡ 3) }
@@ -548,34 +420,38 @@ fn act(alloc: Global, out: &mut String, cores: &mut Cores, does: Does) -> Result
     ensures three { OnOk result ((cores.new.three.id ≡ 3) × (cores.new.three.nodes ≡ 3)) }
 {
     match does {
-        Does::Lose(place) => Ok(lose(&mut cores.flight, place)),
-        Does::Compact(id, index, snapshot_len) => Ok(compact_at(cores, id, index, snapshot_len)),
-        Does::Show(id) => show(alloc, out, node(cores, id)),
-        _ => meet(alloc, out, cores, does),
+        Does::Lose(place) => {
+            lose(&mut cores.flight, place);
+            Ok(Some(Tells::Nothing))
+        }
+        Does::Compact(id, index, snapshot_len) => {
+            compact_at(cores, id, index, snapshot_len);
+            Ok(Some(Tells::Nothing))
+        }
+        Does::Show(id) => show(node(cores, id)),
+        _ => meet(alloc, cores, does),
     }
 }
 
-// The first step that tells something else than it should, and what it tells.
-fn first_wrong(alloc: Global, steps: &[Step]) -> Result<Option<(usize, String)>, AllocError> {
+// The first step that tells something else than it should.
+fn first_wrong(alloc: Global, steps: &[Step]) -> Result<Option<usize>, AllocError> {
     let mut cores = three_cores(alloc)?;
     'steps: for (i, step) in steps.iter().enumerate() {
-        let mut out = String::new(alloc);
-        act(alloc, &mut out, &mut cores, step.does)?;
-        if out.as_str() != step.tells {
-            return Ok(Some((i, out)));
+        if act(alloc, &mut cores, step.0)? != Some(step.1) {
+            return Ok(Some(i));
         }
     }
     Ok(None)
 }
 
 #[test]
-fn each_rule(rt: HostRuntime) -> Result<(), Fail> {
+fn each_rule(rt: HostRuntime) -> Result<(), AllocError> {
     assert_eq!(rt; first_wrong(rt.alloc(), &RULES)?, None);
     Ok(())
 }
 
 #[test]
-fn three_cores_commit_over_losses_and_repeats(rt: HostRuntime) -> Result<(), Fail> {
+fn three_cores_commit_over_losses_and_repeats(rt: HostRuntime) -> Result<(), AllocError> {
     assert_eq!(rt; first_wrong(rt.alloc(), &LOSSES)?, None);
     Ok(())
 }
