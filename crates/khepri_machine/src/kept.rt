@@ -94,7 +94,11 @@ impl Kept {
     }
 
     // What a command comes to.
-    pub(crate) fn outcome<L: Ledger>(&self, cmd: &Command, steps: &mut Steps<L>) -> Result<Outcome, AllocError>
+    pub(crate) fn outcome<L: Ledger>(
+        &self,
+        cmd: &Command,
+        steps: &mut Steps<L>,
+    ) -> Result<Outcome, AllocError>
         ensures value { IfOk result (λ o. exec_command self.now cmd.now ≡ reply_and_next self.now o) }
         ensures over { IfOk result (λ o. IsOver self.now.tree o) }
     {

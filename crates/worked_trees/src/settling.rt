@@ -154,7 +154,14 @@ fn same_at<L: Ledger>(
     let view = tree.node(&path, steps);
     let shown = view.map(|node| (node.pv, node.cv, node.kids));
     match asked(machine, &Command::Get { path })? {
-        Some(Reply::Node { pv, cv, kids, payload: _ }) => Ok(shown == Some((pv, cv, kids))),
+        Some(
+            Reply::Node {
+                pv,
+                cv,
+                kids,
+                payload: _,
+            },
+        ) => Ok(shown == Some((pv, cv, kids))),
         Some(Reply::NoAbsent) => Ok(shown.is_none()),
         _ => Ok(false),
     }

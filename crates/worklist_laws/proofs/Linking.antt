@@ -131,9 +131,9 @@ linked-adds L node watches none q p =
           aims-targets watches q ∙ sym (ap (λ (b : Bool). aims_at watches q || b) absent ∙ or_none (aims_at watches q))
       | false ↦ λ t. sym (in-linked L q p)
     ] refl) where
-  or_none : (a : Bool) → (a || false) ≡ a
-  or_none true = refl
-  or_none false = refl
+      or_none : (a : Bool) → (a || false) ≡ a
+      or_none true = refl
+      or_none false = refl
 
 -- what an index that holds the watches of a tree lists is who watches
 pub holds-lists : (T : Tree) (L : Links) → HoldsWatches T L → IsIndex T (linked_to L)
