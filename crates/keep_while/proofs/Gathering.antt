@@ -12,6 +12,7 @@ use Rattle.std.proofs.lemmas.List.Folds.{list_any_more, list_any-append}
 use Rattle.khepri_terms.specs.Terms.{NameText}
 use Rattle.khepri_terms.specs.Order.{name_cmp, path_cmp}
 use Rattle.khepri_terms.proofs.Cases.{and_true, or_false}
+use Rattle.khepri_types.specs.declared.limits.TheConstants.{MAX_WATCHES}
 use Rattle.khepri_types.specs.declared.node.Node.{Node}
 use Rattle.khepri_types.specs.Conditions.{seen_at}
 use Rattle.khepri_types.specs.Drop.{drop}
@@ -29,7 +30,7 @@ use Rattle.worklist_laws.proofs.Candidates.{fails-from, culprit, next-enough, li
 use Rattle.worklist_laws.proofs.Changing.{near, seen-but, stands-left}
 use Rattle.worklist_laws.proofs.Indexing.{filter-append}
 use Rattle.khepri_types.proofs.Failing.{steady}
-use Rattle.keep_while.specs.Gathering.{AreOut, Asks, asked, both, GoesUnder, HasAbove, HasBelow, HasFewWatches, HasNear, LooksAt, watch_count, without}
+use Rattle.keep_while.specs.Gathering.{AreOut, Asks, asked, both, GoesUnder, HasAbove, HasBelow, HasNear, LooksAt, without}
 
 -- ---- paths are added
 
@@ -300,20 +301,14 @@ tops-cover T done x tops low cover was q =
 
 -- ---- what tests cost
 
-few_at : (T : Tree) (p : Path) → HasFewWatches T → watch_count (get T p) ≤ 16
-few_at T p few = elim (get T p) as (λ o. get T p ≡ o → watch_count o ≤ 16) [
-  | None ↦ λ e. omega arith
-  | Some n ↦ λ e. few p n e
-] refl
-
 length_two : (xs ys : List Path) → length (xs ++ ys) ≡ length xs + length ys
 length_two [] ys = omega arith
 length_two (x ∷ xs) ys = omega (arith, length_two xs ys)
 
-pub test-cost : (T : Tree) (done : List Path) (x : Path) (old now new : ℕ) → HasFewWatches T → now ≤ old + 17 * length done → new ≤ now + 1 + watch_count (get T x) → new ≤ old + 17 * length (done ++ x ∷ [])
-test-cost T done x old now new few was one = omega (arith, was, one, few_at T x few, length_two done (x ∷ []))
+pub test-cost : (done : List Path) (x : Path) (old now new : ℕ) → now ≤ old + (1 + MAX_WATCHES) * length done → new ≤ now + 1 + MAX_WATCHES → new ≤ old + (1 + MAX_WATCHES) * length (done ++ x ∷ [])
+test-cost done x old now new was one = omega (arith, was, one, length_two done (x ∷ []))
 
-pub tests-cost : (done left all : List Path) (old new : ℕ) → done ++ left ≡ all → new ≤ old + 17 * length done → new ≤ old + 17 * length all
+pub tests-cost : (done left all : List Path) (old new : ℕ) → done ++ left ≡ all → new ≤ old + (1 + MAX_WATCHES) * length done → new ≤ old + (1 + MAX_WATCHES) * length all
 tests-cost done left all old new is was = omega (arith, was, length_two done left, ap length is)
 
 -- ---- the next round

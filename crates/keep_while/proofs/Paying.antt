@@ -1,17 +1,18 @@
 -- What the rounds cost.
-use Rattle.std.proofs.Common.{◌≡◌, inl, inr, ℕ, ◌+◌, ◌*◌, ◌-◌, ◌≤◌, Bool, true, false, cond, not, List, [], ◌∷◌, ◌++◌, length, refl, sym, ap, subst, ◌∙◌, arith, Option, Some, None}
+use Rattle.std.proofs.Common.{◌≡◌, inl, inr, ℕ, ◌+◌, ◌*◌, ◌-◌, ◌≤◌, Bool, true, false, not, List, [], ◌∷◌, ◌++◌, length, refl, sym, ap, subst, ◌∙◌, arith, Option, Some, None}
 use Rattle.std.specs.Prelude.{IsTrue, is_some}
 use Rattle.std.specs.List.{filter, flat_map}
 use Rattle.std.specs.List.Sorted.{IsStrictlySortedBy}
 use Rattle.std.specs.FinMap.{get, entries, len, len-entries}
 use Rattle.std.proofs.lemmas.List.Filters.{length-filter_both}
 use Rattle.khepri_terms.specs.Order.{path_cmp}
+use Rattle.khepri_types.specs.declared.limits.TheConstants.{MAX_WATCHES}
 use Rattle.khepri_types.specs.declared.node.Node.{Node}
-use Rattle.khepri_types.specs.Drop.{drop, loses_child}
+use Rattle.khepri_types.specs.Drop.{drop}
 use Rattle.khepri_types.specs.Paths.{is_under}
 use Rattle.khepri_types.specs.Settling.{failing, stable}
-use Rattle.khepri_types.specs.Tree.{Tree, stands, raised_children}
-use Rattle.khepri_types.proofs.Dropping.{stays, len-left, left}
+use Rattle.khepri_types.specs.Tree.{Tree, stands}
+use Rattle.khepri_types.proofs.Dropping.{stays, len-left}
 use Rattle.tree_nodes.specs.Drafts.{Drafted, IsCovered}
 use Rattle.worklist_laws.specs.Candidates.{is_in, IsWithin, SameBelow, tested, watchers, watches_at, aims_node}
 use Rattle.worklist_laws.specs.Changes.{changed_paths}
@@ -23,7 +24,7 @@ use Rattle.worklist_laws.proofs.Changing.{len-changed}
 use Rattle.worklist_laws.proofs.Counting.{listed, round-paid}
 use Rattle.worklist_laws.proofs.Indexing.{watchers-in, in-watchers, watchers-drop}
 use Rattle.keep_while.specs.Costs.{AreAnew, AreApart, IsFirst, IsPaidFor, IsPaidSoFar, KeepsUnder, LinksTouched, OnlyAsks, OnlyWatch, walks}
-use Rattle.keep_while.specs.Gathering.{asked, HasFewWatches, without}
+use Rattle.keep_while.specs.Gathering.{asked, without}
 use Rattle.keep_while.proofs.Counting.{no_more, walks-below, walks-length}
 
 not_true : (b : Bool) → not b ≡ true → b ≡ false
@@ -118,17 +119,6 @@ next-few T tops changed set of watch within same only sorted =
     in_flat (watchers T) paths f.0 p (subst (λ (ps : List Path). IsTrue (is_in ps f.0)) same (within f.0 f.1)) (watch f.0 p f.2) in
     omega (arith, no_more set (flat_map (watchers T) paths) sorted mine, watched T paths)
 
--- ---- few watches
-
-pub few-next : (T U : Tree) (tops : List Path) → HasFewWatches T → U ≡ drop T tops → HasFewWatches U
-few-next T U tops few is q n at =
-    let l = left T tops q n (ap (λ (V : Tree). get V q) (sym is) ∙ at) in
-    by_test (loses_child (entries T) tops q) l.old n (few q l.old l.stood) l.is
-  where
-    by_test : (b : Bool) (m k : Node) → length m.watches ≤ 16 → k ≡ cond b (raised_children m) m → length k.watches ≤ 16
-    by_test true m k le e = omega (arith, le, ap (λ (x : Node). length x.watches) e)
-    by_test false m k le e = omega (arith, le, ap (λ (x : Node). length x.watches) e)
-
 -- ---- what a round costs
 
 -- walks over what goes cost no more than goes
@@ -147,7 +137,7 @@ paid-first d candidates old now f cost = record {
   changed = f.changed;
   anew = f.anew;
   rising = f.rising;
-  paid = λ few. omega (arith, f.count, cost);
+  paid = omega (arith, f.count, cost);
 }
 
 -- what a round tested, changed and dropped
@@ -156,30 +146,30 @@ pub record Round (T U : Tree) (tops candidates next : List Path) (start tested w
   pub apart : AreApart tops
   pub standing : (p : Path) → IsTrue (is_in tops p) → IsTrue (stands T p)
   pub fewer : length next ≤ round_watching T
-  pub tests : HasFewWatches T → tested ≤ start + 17 * length candidates
+  pub tests : tested ≤ start + (1 + MAX_WATCHES) * length candidates
   pub walks : walked ≤ tested + walks T tops
   pub drops : dropped ≡ walked + length tops + (len T - len U)
 
-pub paid-round : (d : Drafted) (T U : Tree) (tops candidates next : List Path) (old start tested walked dropped : ℕ) → IsPaidSoFar d T candidates old start → (HasFewWatches d.tree → HasFewWatches T) → stable T ≡ false → SameBelow tops (failing T) → U ≡ drop T tops
+pub paid-round : (d : Drafted) (T U : Tree) (tops candidates next : List Path) (old start tested walked dropped : ℕ) → IsPaidSoFar d T candidates old start → stable T ≡ false → SameBelow tops (failing T) → U ≡ drop T tops
     → Round T U tops candidates next start tested walked dropped → IsPaidSoFar d U next old dropped
-paid-round d T U tops candidates next old start tested walked dropped was few low same is r = record {
+paid-round d T U tops candidates next old start tested walked dropped was low same is r = record {
   changed = was.changed;
   anew = was.anew;
   rising = was.rising;
-  paid = λ f.
+  paid =
       let N = drop T (failing T) in
       let left : U ≡ N = is ∙ drop-same T tops (failing T) same in
       let gone : len U ≡ len (drop T tops) = ap len is in
       let most = len-changed T (failing T) in
-      omega (arith, was.paid f, r.tests (few f), r.walks, r.drops, round-paid T candidates next low r.fewer, walks-gone T tops r.rising r.apart r.standing, walks-length T tops, gone, most, ap len left, ap (λ (V : Tree). reads_left V next) left);
+      omega (arith, was.paid, r.tests, r.walks, r.drops, round-paid T candidates next low r.fewer, walks-gone T tops r.rising r.apart r.standing, walks-length T tops, gone, most, ap len left, ap (λ (V : Tree). reads_left V next) left);
 }
 
-pub paid-end : (d : Drafted) (T : Tree) (candidates : List Path) (old now end : ℕ) → IsPaidSoFar d T candidates old now → (HasFewWatches d.tree → HasFewWatches T) → (HasFewWatches T → end ≤ now + 17 * length candidates) → IsPaidFor d old end
-paid-end d T candidates old now end was few tests = record {
+pub paid-end : (d : Drafted) (T : Tree) (candidates : List Path) (old now end : ℕ) → IsPaidSoFar d T candidates old now → end ≤ now + (1 + MAX_WATCHES) * length candidates → IsPaidFor d old end
+paid-end d T candidates old now end was tests = record {
   changed = was.changed;
   anew = was.anew;
   rising = was.rising;
-  paid = λ f. omega (arith, was.paid f, tests (few f));
+  paid = omega (arith, was.paid, tests);
 }
 
 -- the candidates after a round

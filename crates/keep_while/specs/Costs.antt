@@ -13,7 +13,6 @@ use Rattle.tree_nodes.specs.Drafts.{Drafted}
 use Rattle.worklist_laws.specs.Candidates.{is_in, IsWithin, watchers, watches_at}
 use Rattle.worklist_laws.specs.Changes.{changed_paths}
 use Rattle.worklist_laws.specs.Counts.{watching, settling_changes, settling_watching, reads_left}
-use Rattle.keep_while.specs.Gathering.{HasFewWatches}
 
 -- none of these paths is below another
 abbrev pub AreApart : List (List NameText) → Type 0
@@ -91,11 +90,11 @@ pub record IsPaidFor (d : Drafted) (old new : ℕ) : Type 0 where
   pub changed : List (List NameText)
   pub anew : AreAnew d.base d.tree changed
   pub rising : IsStrictlySortedBy path_cmp changed
-  pub paid : HasFewWatches d.tree → new ≤ old + 26 * (length d.touched + settling_changes d.tree + (watching d.base changed + settling_watching d.tree) + 1)
+  pub paid : new ≤ old + 26 * (length d.touched + settling_changes d.tree + (watching d.base changed + settling_watching d.tree) + 1)
 
 -- so far it took the steps from the old number to this one, and what the candidates pay for is still to come
 pub record IsPaidSoFar (d : Drafted) (T : Tree) (candidates : List (List NameText)) (old now : ℕ) : Type 0 where
   pub changed : List (List NameText)
   pub anew : AreAnew d.base d.tree changed
   pub rising : IsStrictlySortedBy path_cmp changed
-  pub paid : HasFewWatches d.tree → now + reads_left T candidates ≤ old + 26 * (length d.touched + settling_changes d.tree + (watching d.base changed + settling_watching d.tree) + 1)
+  pub paid : now + reads_left T candidates ≤ old + 26 * (length d.touched + settling_changes d.tree + (watching d.base changed + settling_watching d.tree) + 1)

@@ -1,7 +1,6 @@
 -- What is gathered for a round of settling.
-use Rattle.std.specs.Prelude.{ℕ, ◌≤◌, length, Option, Some, None, ◌≡◌, ◌||◌, false, IsTrue, List, ◌++◌, not}
+use Rattle.std.specs.Prelude.{ℕ, length, Option, Some, None, ◌≡◌, ◌||◌, false, IsTrue, List, ◌++◌, not}
 use Rattle.std.specs.List.{filter}
-use Rattle.std.specs.FinMap.{get}
 use Rattle.khepri_terms.specs.Terms.{NameText}
 use Rattle.khepri_types.specs.declared.node.Node.{Node}
 use Rattle.khepri_types.specs.declared.view.NodeView.{NodeView}
@@ -10,10 +9,6 @@ use Rattle.khepri_types.specs.Paths.{is_child, is_front, is_under}
 use Rattle.khepri_types.specs.Tree.{Tree, stands}
 use Rattle.worklist_laws.specs.Changes.{is_near}
 use Rattle.worklist_laws.specs.Candidates.{is_in, IsWithin, watches_at}
-
--- no node has more than 16 watches
-abbrev pub HasFewWatches : Tree → Type 0
-HasFewWatches T = (q : List NameText) (n : Node) → get T q ≡ Some n → length n.watches ≤ 16
 
 -- how many watches a node has, none where none stands
 abbrev pub watch_count : Option Node → ℕ

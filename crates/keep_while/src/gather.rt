@@ -4,12 +4,13 @@ ghost use Rattle.std.specs.List.Sorted.{IsStrictlySortedBy};
 ghost use Rattle.std.specs.Ordering.{is_eq};
 ghost use Rattle.khepri_terms.specs.Order.{path_cmp};
 ghost use Rattle.khepri_terms.specs.Terms.{NameText};
+ghost use Rattle.khepri_types.specs.declared.limits.TheConstants.{MAX_WATCHES};
 ghost use Rattle.khepri_types.specs.Paths.{is_child, is_front, is_under};
 ghost use Rattle.khepri_types.specs.Tree.{stands};
 ghost use Rattle.worklist_laws.specs.Candidates.{is_in, IsWithin, tested, SameBelow};
 ghost use Rattle.worklist_laws.specs.Links.{linked_to};
 ghost use Rattle.keep_while.specs.Costs.{AreApart, below, EndsApart, KeepsBelow, KeepsUnder, OnlyAbove, OnlyAsks, OnlyBelow, OnlyNear, walks};
-ghost use Rattle.keep_while.specs.Gathering.{Asks, asked, GoesUnder, HasAbove, HasBelow, HasFewWatches, HasNear, without};
+ghost use Rattle.keep_while.specs.Gathering.{Asks, asked, GoesUnder, HasAbove, HasBelow, HasNear, without};
 
 use crate::unmet::fails;
 use khepri_terms::Path;
@@ -231,7 +232,7 @@ pub(crate) fn failing_tops<L: Ledger>(
     ensures standing { IfOk result (λ v. (p : List NameText) → IsTrue (is_in v.items p) → IsTrue (stands draft.now.tree p)) }
     ensures rising { IfOk result (λ v. IsStrictlySortedBy path_cmp v.items) }
     ensures apart { IfOk result (λ v. AreApart v.items) }
-    ensures cost { OnOk result (HasFewWatches draft.now.tree → steps.new ≤ steps.old + 17 * length candidates.now.keys) }
+    ensures cost { OnOk result (steps.new ≤ steps.old + (1 + MAX_WATCHES) * length candidates.now.keys) }
     ensures risen { steps.old ≤ steps.new }
 {
     // For the proof alone: the call tells that the paths rise.

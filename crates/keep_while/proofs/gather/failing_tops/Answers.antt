@@ -24,7 +24,7 @@ loop-path-init g c =
       standing = subst (λ (ps : List (List NameText)). (p : List NameText) → IsTrue (is_in ps p) → IsTrue (stands T p)) none (λ p h. absurd cc);
       rising = subst (IsStrictlySortedBy path_cmp) none rises-none;
       apart = subst AreApart none apart-none;
-      cost = λ few. omega arith;
+      cost = omega arith;
       risen = omega arith;
     }
 
@@ -51,7 +51,7 @@ loop-path-preserved-then-not-is_covered g c =
       standing = subst (λ (ps : List (List NameText)). (p : List NameText) → IsTrue (is_in ps p) → IsTrue (stands T p)) back (stands-more T tops x was.standing (fails-stands T x fails));
       rising = subst (IsStrictlySortedBy path_cmp) back (rises-more tops x was.rising less);
       apart = subst AreApart back (apart-more tops x was.rising was.apart less ends);
-      cost = λ few. test-cost T done x c.args.steps.now c.loop-path.steps c.fails.new.steps few (was.cost few) c.fails.ensures.cost;
+      cost = test-cost done x c.args.steps.now c.loop-path.steps c.fails.new.steps was.cost c.fails.ensures.cost;
       risen = omega (arith, was.risen, c.fails.ensures.risen);
     }
 
@@ -73,9 +73,9 @@ loop-path-preserved g c =
       standing = was.standing;
       rising = was.rising;
       apart = was.apart;
-      cost = λ few. test-cost T done x c.args.steps.now c.loop-path.steps c.fails.new.steps few (was.cost few) c.fails.ensures.cost;
+      cost = test-cost done x c.args.steps.now c.loop-path.steps c.fails.new.steps was.cost c.fails.ensures.cost;
       risen = omega (arith, was.risen, c.fails.ensures.risen);
     }
 
 pub returns-clause-cost : goal.returns-clause-cost
-returns-clause-cost g c = λ few. tests-cost c.loop-path.invariant.done c.loop-path.path-iterator c.args.candidates.now.keys c.args.steps.now c.loop-path.steps c.loop-path.invariant.rest (c.loop-path.invariant.cost few)
+returns-clause-cost g c = tests-cost c.loop-path.invariant.done c.loop-path.path-iterator c.args.candidates.now.keys c.args.steps.now c.loop-path.steps c.loop-path.invariant.rest c.loop-path.invariant.cost

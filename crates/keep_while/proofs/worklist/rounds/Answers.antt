@@ -12,7 +12,7 @@ use Rattle.worklist_laws.proofs.Candidates.{tested-below}
 use Rattle.keep_while.specs.Costs.{KeepsUnder, OnlyAsks, walks}
 use Rattle.keep_while.specs.Gathering.{asked, GoesUnder, HasNear}
 use Rattle.keep_while.proofs.Gathering.{gathered-enough, out-next}
-use Rattle.keep_while.proofs.Paying.{asked-less, few-next, next-asked, paid-end, paid-round, round-few}
+use Rattle.keep_while.proofs.Paying.{asked-less, next-asked, paid-end, paid-round, round-few}
 use Rattle.keep_while.proofs.Settled.{working-next, worked, root-left, settled-gone, unsettled}
 use Rattle.keep_while.proofs.worklist.rounds.Goals as goal
 
@@ -27,7 +27,7 @@ returns-then-len-eq0-clause-count g c =
 
 pub returns-then-len-eq0-clause-cost : goal.returns-then-len-eq0-clause-cost
 returns-then-len-eq0-clause-cost g c = λ start so_far.
-    paid-end c.args.draft.now c.rounds.draft.tree c.rounds.candidates.keys start c.rounds.steps c.failing_tops.new.steps (c.rounds.invariant.paid start so_far) c.rounds.invariant.few c.in_ok-tops.ensures.cost
+    paid-end c.args.draft.now c.rounds.draft.tree c.rounds.candidates.keys start c.rounds.steps c.failing_tops.new.steps (c.rounds.invariant.paid start so_far) c.in_ok-tops.ensures.cost
 
 pub drop_all-requires : goal.drop_all-requires
 drop_all-requires g c = record {
@@ -79,8 +79,7 @@ rounds-preserved g c =
       left = left;
       gone = gone;
       asked = still;
-      few = λ f. few-next T U tops (was.few f) tree;
-      paid = λ start so_far. paid-round c.args.draft.now T U tops c.rounds.candidates.keys candidates start c.rounds.steps c.failing_tops.new.steps c.changed_by.new.steps c.drop_all.new.steps (was.paid start so_far) was.few (unsettled c.rounds.draft c.rounds.candidates.keys tops was.enough c.in_ok-tops.ensures.tops some) same tree (record {
+      paid = λ start so_far. paid-round c.args.draft.now T U tops c.rounds.candidates.keys candidates start c.rounds.steps c.failing_tops.new.steps c.changed_by.new.steps c.drop_all.new.steps (was.paid start so_far) (unsettled c.rounds.draft c.rounds.candidates.keys tops was.enough c.in_ok-tops.ensures.tops some) same tree (record {
         rising = c.in_ok-tops.ensures.rising;
         apart = c.in_ok-tops.ensures.apart;
         standing = c.in_ok-tops.ensures.standing;
