@@ -12,3 +12,12 @@ pub both_below_root : (p q : List NameText) (paths : List (List NameText)) → p
 both_below_root [] q paths e k l = absurd (omega arith)
 both_below_root (n ∷ p) [] paths e k l = absurd (omega arith)
 both_below_root (n ∷ p) (m ∷ q) paths e k l = ap (λ (ps : List (List NameText)). is_under ps []) e ∙ not_root n m p q
+
+only_root : (n : NameText) (p : List NameText) → is_under ((n ∷ p) ∷ []) [] ≡ false
+unfolding is_front
+only_root n p = refl
+
+-- to drop one path other than the root spares the root
+pub below_root : (p : List NameText) (paths : List (List NameText)) → paths ≡ p ∷ [] → 0 < length p → is_under paths [] ≡ false
+below_root [] paths e k = absurd (omega arith)
+below_root (n ∷ p) paths e k = ap (λ (ps : List (List NameText)). is_under ps []) e ∙ only_root n p
