@@ -1,7 +1,11 @@
 -- What is read of bytes is spelled so, and what is spelled so is read.
-use Rattle.std.proofs.Common.{◌≡◌, ℕ, ◌+◌, ◌*◌, ◌-◌, ◌/◌, ◌%◌, ◌<◌, true, false, cond, leb, eqb, ◌&&◌, ⊎_elim, List, [], ◌∷◌, ◌++◌, length, refl, ap, subst, ◌∙◌, arith, Some, None}
+use Rattle.std.proofs.Common.{◌≡◌, ℕ, ◌+◌, ◌*◌, ◌-◌, ◌/◌, ◌%◌, ◌<◌, true, false, cond, leb, eqb, ◌&&◌, ⊎_elim, List, [], ◌∷◌, ◌++◌, ◌≤◌, length, take, drop, get_or, refl, sym, ap, subst, ◌∙◌, append_assoc, arith, Some, None}
 use Rattle.std.proofs.lemmas.Bool.Decides.{nat_tests}
 use Rattle.std.proofs.lemmas.Bool.{eqb-true, cond-true, cond-false}
+use Rattle.std.proofs.lemmas.Grind.{flat_map-append}
+use Rattle.std.proofs.lemmas.List.{append-nil, length-append}
+use Rattle.std.proofs.Math.Seq.{take-length}
+use Rattle.std.specs.List.{AllByRecursion}
 use Rattle.std.specs.Fmt.{digit_glyph}
 use Rattle.percent_encoding.specs.Percent.{percent_encode_byte}
 use Rattle.khepri_terms.specs.Many.{◌>>=◌}
@@ -97,3 +101,52 @@ bytes_takes n text = many_takes byte_at byte_text (λ b. b < 256) byte_takes n t
 pub bytes_again : (bytes : List ℕ) (m n : ℕ) (rest : List ℕ) → AreBytes bytes → m ≡ length bytes + n → bytes_at m (bytes_text bytes ++ rest) ≡ ahead bytes (bytes_at n rest)
 bytes_again bytes m n rest are e =
     many_again byte_at byte_text (λ b. b < 256) (λ _. Unit {0}) (λ b r lt _. byte_again b r lt) (λ _ _ _. tt) bytes m n rest are e tt
+
+-- bytes that stand for themselves
+abbrev pub ArePlain : List ℕ → Type 0
+ArePlain bytes = AllByRecursion (λ b. is_plain b ≡ true) bytes
+
+plain_text : (bytes : List ℕ) → ArePlain bytes → bytes_text bytes ≡ bytes
+plain_text [] all = refl
+plain_text (b ∷ bytes) all = rw (byte_text-plain b all.0) (ap (λ (bs : List ℕ). b ∷ bs) (plain_text bytes all.1))
+
+plain_bytes : (bytes : List ℕ) → ArePlain bytes → AreBytes bytes
+plain_bytes [] all = tt
+plain_bytes (b ∷ bytes) all = (plain_small b all.0, plain_bytes bytes all.1)
+
+plain_read : (bytes rest : List ℕ) (n : ℕ) → ArePlain bytes → length bytes ≤ n → bytes_at n (bytes ++ rest) ≡ ahead bytes (bytes_at (n - length bytes) rest)
+plain_read bytes rest n all le =
+    ap (λ (bs : List ℕ). bytes_at n (bs ++ rest)) (sym (plain_text bytes all)) ∙ bytes_again bytes n (n - length bytes) rest (plain_bytes bytes all) (omega arith)
+
+-- a loop that reads takes plain bytes at once
+pub plain_on : (total : List ℕ × List ℕ) (most : ℕ) (xs ys bytes text rest : List ℕ) → length xs + length bytes ≤ most → ArePlain bytes → text ≡ bytes ++ rest → ys ≡ xs ++ bytes
+    → total ≡ ahead xs (bytes_at (most - length xs) text) → total ≡ ahead ys (bytes_at (most - length ys) rest)
+plain_on total most xs ys bytes text rest le all is e so_far =
+    let left : ℕ = most - length xs in
+    let after : List ℕ × List ℕ = bytes_at (left - length bytes) rest in
+    let len : length ys ≡ length xs + length bytes = ap length e ∙ length-append xs bytes in
+    so_far
+    ∙ (ap (λ (t : List ℕ). ahead xs (bytes_at left t)) is
+    ∙ (ap (λ (f : List ℕ × List ℕ). ahead xs f) (plain_read bytes rest left all (omega arith))
+    ∙ (ap (λ (zs : List ℕ). (zs, after.1)) (sym (append_assoc xs bytes after.0))
+    ∙ (ap (λ (zs : List ℕ). ahead zs after) (sym e) ∙ ap (λ (n : ℕ). ahead ys (bytes_at n rest)) (omega arith)))))
+
+-- a loop that prints appends plain bytes at once
+pub plain_print : (whole out mid bytes text rest : List ℕ) → ArePlain bytes → text ≡ bytes ++ rest → mid ≡ out ++ bytes → whole ≡ out ++ bytes_text text → whole ≡ mid ++ bytes_text rest
+plain_print whole out mid bytes text rest all is e so_far =
+    so_far
+    ∙ (ap (λ (t : List ℕ). out ++ bytes_text t) is
+    ∙ (ap (λ (t : List ℕ). out ++ t) (flat_map-append byte_text bytes rest)
+    ∙ (ap (λ (t : List ℕ). out ++ (t ++ bytes_text rest)) (plain_text bytes all)
+    ∙ (sym (append_assoc out bytes (bytes_text rest)) ∙ ap (λ (t : List ℕ). t ++ bytes_text rest) (sym e)))))
+
+-- and then one byte
+pub byte_print : (whole out mid text : List ℕ) → 1 ≤ length text → mid ≡ out ++ byte_text (get_or text 0 0) → whole ≡ out ++ bytes_text text → whole ≡ mid ++ bytes_text (take (length text - 1) (drop 1 text))
+byte_print whole out mid [] le e so_far = absurd (omega arith)
+byte_print whole out mid (b ∷ rest) le e so_far =
+    let tail : take (length (b ∷ rest) - 1) rest ≡ rest = ap (λ (n : ℕ). take n rest) (omega arith) ∙ take-length rest in
+    so_far ∙ (sym (append_assoc out (byte_text b) (bytes_text rest)) ∙ (ap (λ (t : List ℕ). t ++ bytes_text rest) (sym e) ∙ ap (λ (t : List ℕ). mid ++ bytes_text t) (sym tail)))
+
+pub all_printed : (whole out text : List ℕ) → length text < 1 → whole ≡ out ++ bytes_text text → out ≡ whole
+all_printed whole out [] lt so_far = sym (so_far ∙ append-nil out)
+all_printed whole out (b ∷ rest) lt so_far = absurd (omega (arith, lt))

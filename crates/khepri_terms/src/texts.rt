@@ -1,7 +1,8 @@
 //! The forms that larger texts are made of: one byte, bytes, and the bytes of a name. A reader gives the value at the
 //! front and what is after it, a printer appends the spelling. After want of memory a printer of this crate alone
 //! may leave a part behind what was there before.
-ghost use Rattle.std.specs.Prelude.{◌≡◌, ◌++◌, ◌<◌, take, length, Some, None, MatchOption, IfSome, OnOk, OnErr, IfOk, Err};
+ghost use Rattle.std.specs.Prelude.{◌≡◌, ◌++◌, ◌<◌, ◌≤◌, true, take, length, Some, None, MatchOption, IfSome, OnOk, OnErr, IfOk, Err};
+ghost use Rattle.std.specs.List.{AllByRecursion};
 ghost use Rattle.khepri_terms.specs.declared.limits.TheConstants.{MAX_NAME};
 ghost use Rattle.khepri_terms.specs.Lengths.{capped};
 ghost use Rattle.khepri_terms.specs.Names.{IsNameBytes, is_dots, name_text, dots_at, undotted, name_at};
@@ -86,6 +87,19 @@ pub fn read_byte(text: &[u8]) -> Option<(u8, &[u8])>
     }
 }
 
+// As many bytes at the front as stand for themselves, at most `max`, and what is after them.
+fn plain_front(text: &[u8], max: usize) -> (&[u8], &[u8])
+    ensures parts { text.now ≡ result.0.now ++ result.1.now }
+    ensures plain { AllByRecursion (λ b. is_plain b ≡ true) result.0.now }
+    ensures few { length result.0.now ≤ max }
+{
+    let mut len: usize = 0;
+    'plain: while len < max && len < text.len() && is_plain_byte(text[len]) {
+        len += 1;
+    }
+    text.split_at(len)
+}
+
 // As many bytes as are spelled at the front, at most `max`, and what is after them.
 pub(crate) fn read_bytes(
     alloc: Global,
@@ -94,13 +108,16 @@ pub(crate) fn read_bytes(
 ) -> Result<(Vec<u8>, &[u8]), AllocError>
     ensures { IfOk result (λ x. bytes_at max text.now ≡ (x.0.items, x.1.now)) }
 {
-    let mut bytes = Vec::new(alloc);
-    let mut rest = text;
+    let (front, behind) = plain_front(text, max);
+    let mut bytes = Vec::from_slice(alloc, front)?;
+    let mut rest = behind;
     'bytes: while bytes.len() < max {
         match read_byte(rest) {
             Some((byte, after)) => {
                 bytes.push(byte)?;
-                rest = after;
+                let (plain, other) = plain_front(after, max - bytes.len());
+                bytes.extend_from_slice(plain)?;
+                rest = other;
             }
             None => break 'bytes,
         }
@@ -127,10 +144,18 @@ pub(crate) fn print_bytes(bytes: &[u8], out: &mut Vec<u8>) -> Result<(), AllocEr
     ensures ok { OnOk result (out.new.items ≡ out.old.items ++ bytes_text bytes.now) }
     ensures front { take (length out.old.items) out.new.items ≡ out.old.items }
 {
-    for b in bytes {
-        print_byte(*b, out)?;
+    let mut rest = bytes;
+    'runs: loop {
+        let (plain, other) = plain_front(rest, rest.len());
+        out.extend_from_slice(plain)?;
+        match other {
+            [] => return Ok(()),
+            [b, after @ ..] => {
+                print_byte(*b, out)?;
+                rest = after;
+            }
+        }
     }
-    Ok(())
 }
 
 // The dots behind an escaped one, and what is after them.
