@@ -31,12 +31,14 @@ impl Model for Bytes {
 }
 
 impl Bytes {
+    /// The bytes of a vector, which is taken over. Copies take their memory from this allocator.
     pub fn from_vec(alloc: Global, items: Vec<u8>) -> Bytes
         ensures { result ≡ items.items }
     {
         Bytes { items, alloc }
     }
 
+    /// A copy of these bytes.
     pub fn from_slice(alloc: Global, items: &[u8]) -> Result<Bytes, AllocError>
         ensures { IfOk result (λ b. b ≡ items.now) }
     {
@@ -46,6 +48,7 @@ impl Bytes {
         })
     }
 
+    /// The bytes, lent.
     pub fn as_slice(&self) -> &[u8]
         ensures value { result.now ≡ self.now }
         ensures bytes { AreBytes self.now }
@@ -53,12 +56,14 @@ impl Bytes {
         self.items.as_slice()
     }
 
+    /// How many bytes there are.
     pub fn len(&self) -> usize
         ensures { result ≡ length self.now }
     {
         self.items.len()
     }
 
+    /// A copy with memory of its own.
     pub fn copy(&self) -> Result<Bytes, AllocError>
         ensures value { IfOk result (λ b. b ≡ self.now) }
         ensures bytes { AreBytes self.now }

@@ -94,12 +94,14 @@ impl Name {
         Ok((Name { kind, bytes }, rest))
     }
 
+    /// Whether it is an atom or a text.
     pub fn kind(&self) -> Kind
         ensures { result ≡ self.now.kind }
     {
         self.kind
     }
 
+    /// The bytes themselves, not as they are spelled.
     pub fn bytes(&self) -> &[u8]
         ensures value { result.now ≡ self.now.bytes }
         ensures name { IsNameBytes self.now.bytes }
@@ -144,6 +146,7 @@ impl Name {
         }
     }
 
+    /// A copy with memory of its own.
     pub fn copy(&self) -> Result<Name, AllocError>
         ensures { IfOk result (λ n. n ≡ self.now) }
     {
@@ -153,12 +156,14 @@ impl Name {
         })
     }
 
+    /// Whether kind and bytes are the same.
     pub fn is_same(&self, other: &Name) -> bool
         ensures { IsTrue result ↔ (self.now ≡ other.now) }
     {
         self.kind == other.kind && self.bytes() == other.bytes()
     }
 
+    /// Atoms are before texts, and names of one kind go by their bytes.
     pub fn compare(&self, other: &Name) -> Ordering
         ensures { result ≡ name_cmp self.now other.now }
     {

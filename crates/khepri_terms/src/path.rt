@@ -42,6 +42,7 @@ impl Model for Path {
 }
 
 impl Path {
+    /// The path without names. It takes no memory.
     pub fn root(alloc: Global) -> Path
         ensures { result ≡ [] }
     {
@@ -58,12 +59,14 @@ impl Path {
         self.names.len()
     }
 
+    /// Whether all names are the same.
     pub fn is_same(&self, other: &Path) -> bool
         ensures { IsTrue result ↔ (self.now ≡ other.now) }
     {
         self == other
     }
 
+    /// Name by name, from the root on; a path is before those that begin with it.
     pub fn compare(&self, other: &Path) -> Ordering
         ensures { result ≡ path_cmp self.now other.now }
     {
@@ -114,12 +117,14 @@ impl Path {
         names_len(self.names.as_slice())
     }
 
+    /// The names, from the root on.
     pub fn names(&self) -> &[Name]
         ensures { result.now ≡ self.now }
     {
         self.names.as_slice()
     }
 
+    /// The name at a place, counted from 0.
     pub fn name(&self, i: usize) -> &Name
         requires { i < length self.now }
         ensures { slice_get self.now i ≡ Some result.now }
@@ -127,6 +132,7 @@ impl Path {
         &self.names[i]
     }
 
+    /// A copy with memory of its own.
     pub fn copy(&self) -> Result<Path, AllocError>
         ensures { IfOk result (λ p. p ≡ self.now) }
     {

@@ -29,6 +29,7 @@ pub struct Field {
 }
 
 impl Field {
+    /// A copy with memory of its own.
     pub fn copy(&self) -> Result<Field, AllocError>
         ensures { IfOk result (λ f. f ≡ self.now) }
     {
@@ -199,6 +200,7 @@ impl Rec {
         Err(RecFault::Full)
     }
 
+    /// A copy with memory of its own.
     pub fn copy(&self) -> Result<Rec, AllocError>
         ensures { IfOk result (λ r. r ≡ self.now) }
     {
@@ -208,6 +210,7 @@ impl Rec {
         })
     }
 
+    /// Whether all fields are the same.
     pub fn is_same(&self, other: &Rec) -> bool
         ensures { IsTrue result ↔ (self.now ≡ other.now) }
     {

@@ -88,6 +88,7 @@ impl Scalar {
         }
     }
 
+    /// A copy with memory of its own.
     pub fn copy(&self) -> Result<Scalar, AllocError>
         ensures same { IfOk result (λ s. s ≡ self.now) }
         ensures value { IsValue self.now }
@@ -98,6 +99,7 @@ impl Scalar {
         }
     }
 
+    /// Whether kind and value are the same.
     pub fn is_same(&self, other: &Scalar) -> bool
         ensures { IsTrue result ↔ (self.now ≡ other.now) }
     {

@@ -27,12 +27,14 @@ impl Model for Key {
 }
 
 impl Key {
+    /// The scalars of a vector, which is taken over. Copies take their memory from this allocator.
     pub fn from_vec(alloc: Global, scalars: Vec<Scalar>) -> Key
         ensures { result ≡ scalars.items }
     {
         Key { scalars, alloc }
     }
 
+    /// The scalars, in their order.
     pub fn as_slice(&self) -> &[Scalar]
         ensures { result.now ≡ self.now }
     {

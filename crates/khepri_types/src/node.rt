@@ -15,6 +15,7 @@ pub enum Payload {
 impl Payload {
     ghost use Rattle.khepri_types.specs.Tree.{same_payload};
 
+    /// A copy with memory of its own.
     pub fn copy(&self) -> Result<Payload, AllocError>
         ensures { IfOk result (λ p. p ≡ self.now) }
     {
@@ -24,6 +25,7 @@ impl Payload {
         }
     }
 
+    /// Whether one may take the other's place without a new version.
     pub fn is_same(&self, other: &Payload) -> bool
         ensures { result ≡ same_payload self.now other.now }
     {

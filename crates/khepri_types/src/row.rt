@@ -15,6 +15,7 @@ pub struct Row {
 }
 
 impl Row {
+    /// A copy with memory of its own.
     pub fn copy(&self) -> Result<Row, AllocError>
         ensures { IfOk result (λ r. r ≡ self.now) }
     {
@@ -38,6 +39,7 @@ pub enum RowChange {
 }
 
 impl RowChange {
+    /// A copy with memory of its own.
     pub fn copy(&self) -> Result<RowChange, AllocError>
         ensures { IfOk result (λ c. c ≡ self.now) }
     {

@@ -10,7 +10,9 @@ use std::marker::Model;
 #[derive(Drop)]
 pub struct ShownNode {
     pub path: Path,
+    /// The payload version.
     pub pv: u64,
+    /// The child-list version.
     pub cv: u64,
     /// How many child nodes it has.
     pub kids: u64,
@@ -33,6 +35,7 @@ impl Model for ShownNodes {
 }
 
 impl ShownNodes {
+    /// No nodes. It takes no memory.
     pub fn none(alloc: Global) -> ShownNodes
         ensures { result ≡ [] }
     {
@@ -41,12 +44,14 @@ impl ShownNodes {
         }
     }
 
+    /// The nodes of a vector, in its order.
     pub fn from_vec(items: Vec<ShownNode>) -> ShownNodes
         ensures { result ≡ items.items }
     {
         ShownNodes { items }
     }
 
+    /// The nodes, lent.
     pub fn as_slice(&self) -> &[ShownNode]
         ensures { result.now ≡ self.now }
     {

@@ -9,7 +9,9 @@ pub struct NodeView<'a> {
     /// The last name of its path, none at the root.
     pub name: Option<&'a Name>,
     pub payload: &'a Payload,
+    /// The payload version.
     pub pv: u64,
+    /// The child-list version.
     pub cv: u64,
     /// How many child nodes it has.
     pub kids: u64,

@@ -50,6 +50,7 @@ impl Model for Watches {
 }
 
 impl Watches {
+    /// No watches. It takes no memory.
     pub fn none(alloc: Global) -> Watches
         ensures { result ≡ [] }
     {
@@ -69,6 +70,7 @@ impl Watches {
         Some(Watches { items })
     }
 
+    /// The watches, in the order in which they were given.
     pub fn as_slice(&self) -> &[Watch]
         ensures value { result.now ≡ self.now }
         ensures few { length self.now ≤ MAX_WATCHES }
