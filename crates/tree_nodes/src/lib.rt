@@ -1,6 +1,6 @@
 //! The tree of nodes, and drafts of what it is to become. A tree is seen as a map from paths to nodes, of which the root stands and
 //! with each path all its fronts; a draft is seen as the tree it began from, the tree it is now, and the paths that were touched.
-//! Only this crate hands out nodes, and each read of one counts a step. It knows paths, payloads and watches; it knows nothing of
+//! Each read of a node through this crate counts a step. It knows paths, payloads and watches; it knows nothing of
 //! commands, of limits, or of when a watch is met.
 #![tactic(auto)]
 

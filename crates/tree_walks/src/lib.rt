@@ -1,6 +1,6 @@
-//! What a draft is made of: walks over its nodes in order of path, by their children alone, and the changes of one command, each
-//! made of single changes of a node. It knows paths, payloads and watches; it counts no steps, and knows nothing of how nodes are
-//! kept.
+//! The changes of one command to a draft, each made of single changes of a node, and walks in order of path: over the nodes of a
+//! tree, keeping the way, and from one path of a draft to the next. It knows paths, payloads and watches; it counts no steps, and
+//! knows nothing of how nodes are kept.
 #![tactic(auto)]
 
 mod descent;
