@@ -42,3 +42,8 @@ pub mod Items
 pub mod ScriptWords
 pub mod ReadingScripts
 pub mod ValueTypes
+pub mod Lists
+pub mod ProjectionTexts
+pub mod ProjectionLines
+pub mod RowTexts
+pub mod TableSteps

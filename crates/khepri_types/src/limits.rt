@@ -62,3 +62,15 @@ pub const MAX_EMITTED: usize = 64;
 
 /// Bytes of a text that `cat` makes.
 pub const MAX_CAT_TEXT: usize = 4_096;
+
+/// Projections that may stand at once.
+pub const MAX_PROJECTIONS: usize = 64;
+
+/// Sources of a key, and scalars of a key that a read asks for.
+pub const MAX_ROW_KEYS: usize = 4;
+
+/// Sources of a value, and scalars of a row's value.
+pub const MAX_ROW_VALUES: usize = 8;
+
+/// Bytes of rows: the sum over all rows of all projections of the spelled lengths of path, key and value.
+pub const MAX_ROW_BYTES: u64 = 33_554_432;
