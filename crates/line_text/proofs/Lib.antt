@@ -1,6 +1,1 @@
 pub mod Grammar
-pub mod Parts
-pub mod Stages
-pub mod Loops
-pub mod Layers
-pub mod Said

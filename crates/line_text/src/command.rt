@@ -8,11 +8,10 @@ ghost use Rattle.khepri_types.specs.Texts.{payload_text, watching_text, assigned
 ghost use Rattle.line_text.specs.Grammar.{SpellsCommand, IsNoCommand};
 ghost use Rattle.khepri_types.specs.Reading.{spelled_path, spelled_set, spelled_assigned, spelled_cas, spelled_pattern, spelled_limit, limit_behind, spelled_many, deleting_or_asking, spelled_command};
 
-use crate::atom::read_mark;
-use crate::pattern::{append_pattern, read_pattern};
 use crate::payload::{append_payload, read_payload};
 use crate::watch::{append_asked, append_watching, read_asked, read_watching};
-use crate::words::{append_number, append_word, strip};
+use condition_text::words::{append_number, append_word, read_mark, strip};
+use condition_text::{append_pattern, read_pattern};
 use khepri_terms::numbers::read_number;
 use khepri_terms::texts::keep_whole;
 use khepri_terms::{Path, TextFault};

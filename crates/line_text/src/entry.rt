@@ -4,7 +4,8 @@ ghost use Rattle.khepri_types.specs.Texts.{entry_text};
 ghost use Rattle.khepri_types.specs.ReadingOut.{command_entry, fire_entry, older_entry, spelled_entry};
 
 use crate::command::{append_command, match_command};
-use crate::words::{append_number, append_word, is_word, read_whole_number};
+use crate::words::{is_word, read_whole_number};
+use condition_text::words::{append_number, append_word};
 use khepri_terms::TextFault;
 use khepri_types::EntryText;
 use std::alloc::{AllocError, Global};

@@ -3,15 +3,10 @@
 //! values that lines carry; it knows nothing of streams, of where a line ends, or of what a line does.
 #![tactic(auto)]
 
-mod atom;
 mod command;
-mod condition;
 mod entry;
-mod glob;
 mod line;
-mod many;
 mod output;
-mod pattern;
 mod payload;
 mod reply;
 mod shown;

@@ -7,10 +7,8 @@ ghost use Rattle.line_text.specs.Grammar.{SpellsOut, IsNoOut};
 
 use crate::entry::{append_entry, read_entry};
 use crate::reply::{append_reply, read_reply};
-use crate::words::{
-    append_number, append_numbers, append_word, is_word, read_number_before, read_whole_number,
-    strip,
-};
+use crate::words::{append_numbers, is_word, read_number_before, read_whole_number};
+use condition_text::words::{append_number, append_word, strip};
 use khepri_terms::TextFault;
 use khepri_terms::texts::keep_whole;
 use khepri_types::{EntryText, OutLine, Reason, Reply, Rows, StopWord};

@@ -3,7 +3,8 @@ ghost use Rattle.std.specs.Prelude.{◌≡◌, ◌++◌, length, take, IfOk, OnO
 ghost use Rattle.khepri_types.specs.Texts.{payload_text};
 ghost use Rattle.khepri_types.specs.Reading.{spelled_payload, payload_at};
 
-use crate::words::{append_word, is_word};
+use crate::words::is_word;
+use condition_text::words::append_word;
 use khepri_terms::{Rec, TextFault};
 use khepri_types::Payload;
 use std::alloc::{AllocError, Global};

@@ -8,10 +8,8 @@ ghost use Rattle.khepri_types.specs.ReadingOut.{changed_at, node_at, count_at, w
 use crate::command::{append_path, read_whole_path};
 use crate::payload::read_whole_payload;
 use crate::shown::{append_content, append_shown_nodes, read_nodes};
-use crate::words::{
-    append_number, append_numbers, append_word, is_word, read_number_before, read_three,
-    read_whole_number, strip,
-};
+use crate::words::{append_numbers, is_word, read_number_before, read_three, read_whole_number};
+use condition_text::words::{append_number, append_word, strip};
 use khepri_terms::TextFault;
 use khepri_terms::texts::keep_whole;
 use khepri_types::{Reply, ShownNodes};

@@ -6,10 +6,10 @@ ghost use Rattle.khepri_terms.specs.Many.{many};
 ghost use Rattle.khepri_types.specs.Texts.{payload_text, shown_text};
 ghost use Rattle.khepri_types.specs.ReadingOut.{shown_content, shown_at, nodes_at};
 
-use crate::atom::read_mark;
-use crate::many::{Item, read_many};
 use crate::payload::{append_payload, read_payload};
-use crate::words::{append_number, append_word, read_three};
+use crate::words::read_three;
+use condition_text::many::{Item, read_many};
+use condition_text::words::{append_number, append_word, read_mark};
 use khepri_terms::numbers::read_number;
 use khepri_terms::{Path, TextFault};
 use khepri_types::limits::MAX_NUMBER;

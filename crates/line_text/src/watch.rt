@@ -8,10 +8,10 @@ ghost use Rattle.khepri_types.specs.Texts.{watch_text, watching_text};
 ghost use Rattle.khepri_types.specs.declared.limits.TheConstants.{MAX_WATCHES};
 ghost use Rattle.khepri_types.specs.Reading.{asked_at, watch_at, whole_watches, spelled_watching};
 
-use crate::atom::read_mark;
-use crate::condition::{append_condition, match_condition};
-use crate::many::{Item, read_many};
-use crate::words::{after, append_word, is_word};
+use crate::words::{after, is_word};
+use condition_text::many::{Item, read_many};
+use condition_text::words::{append_word, read_mark};
+use condition_text::{append_condition, read_condition};
 use khepri_terms::{Path, TextFault};
 use khepri_types::limits::MAX_WATCHES;
 use khepri_types::{Condition, Watch, Watches, Watching};
@@ -108,7 +108,7 @@ pub(crate) fn read_asked(alloc: Global, text: &[u8]) -> Result<(Path, Condition,
 {
     let (path, rest) = Path::read(alloc, text)?;
     let rest = read_mark(rest, b' ')?;
-    let (cond, rest) = match_condition(alloc, rest)?;
+    let (cond, rest) = read_condition(alloc, rest)?;
     Ok((path, cond, rest))
 }
 

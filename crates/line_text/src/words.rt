@@ -1,31 +1,13 @@
 // The words and numbers of a line.
-ghost use Rattle.std.specs.Prelude.{◌≡◌, ◌++◌, ◌≤◌, true, false, length, take, drop, OnOk, MatchOption, Some, None};
+ghost use Rattle.std.specs.Prelude.{◌≡◌, ◌++◌, length, take, OnOk, MatchOption, Some, None};
 ghost use Rattle.std.specs.Fmt.{decimal};
-ghost use Rattle.khepri_types.specs.Reading.{begins, is_word};
+ghost use Rattle.khepri_types.specs.Reading.{is_word};
 ghost use Rattle.khepri_types.specs.ReadingOut.{after_word, number_before, three_before, spelled_number};
 
-use itoa::Buffer;
+use condition_text::words::append_number;
 use khepri_terms::numbers::read_number;
 use khepri_types::limits::MAX_NUMBER;
 use std::alloc::AllocError;
-
-/// Appends a word.
-pub(crate) fn append_word(word: &[u8], out: &mut Vec<u8>) -> Result<(), AllocError>
-    ensures ok { OnOk result (out.new.items ≡ out.old.items ++ word.now) }
-    ensures front { take (length out.old.items) out.new.items ≡ out.old.items }
-{
-    out.extend_from_slice(word)
-}
-
-/// Appends a word and a number in decimal behind it.
-pub(crate) fn append_number(word: &[u8], number: u64, out: &mut Vec<u8>) -> Result<(), AllocError>
-    ensures ok { OnOk result (out.new.items ≡ out.old.items ++ (word.now ++ decimal number)) }
-    ensures front { take (length out.old.items) out.new.items ≡ out.old.items }
-{
-    append_word(word, out)?;
-    let mut digits = Buffer::new();
-    append_word(digits.format(number).as_bytes(), out)
-}
 
 /// Appends two words, each with a number behind it.
 pub(crate) fn append_numbers(
@@ -40,13 +22,6 @@ pub(crate) fn append_numbers(
 {
     append_number(first, a, out)?;
     append_number(second, b, out)
-}
-
-/// What is after this word at the front, none where the text does not begin with it.
-pub(crate) fn strip<'a>(text: &'a [u8], word: &[u8]) -> Option<&'a [u8]>
-    ensures { MatchOption result (begins word.now text.now ≡ false) (λ x. (begins word.now text.now ≡ true) × (x.now ≡ drop (length word.now) text.now)) }
-{
-    text.strip_prefix(word)
 }
 
 /// The whole text is this word.

@@ -2,7 +2,7 @@ use Rattle.std.proofs.Common.{take, refl}
 use Rattle.std.specs.List.{flat_map}
 use Rattle.khepri_terms.proofs.Printing.{front_of, front_kept}
 use Rattle.khepri_types.specs.Texts.{shown_text}
-use Rattle.line_text.proofs.Loops.{none_yet, one_more, all_done}
+use Rattle.condition_text.proofs.Loops.{none_yet, one_more, all_done}
 use Rattle.line_text.proofs.shown.append_shown_nodes.Goals as goal
 
 pub loop-node-init : goal.loop-node-init

@@ -1,0 +1,5 @@
+pub mod Parts
+pub mod Stages
+pub mod Loops
+pub mod Layers
+pub mod Said

@@ -1,5 +1,0 @@
-use Rattle.khepri_terms.proofs.Printing.{front_of}
-use Rattle.line_text.proofs.atom.append_field_asked.Goals as goal
-
-pub returns-clause-front : goal.returns-clause-front
-returns-clause-front c = front_of _ _ _ _ c.in_ok-append_key.ensures.ok c.append_value.ensures.front
