@@ -8,12 +8,12 @@ ghost use Rattle.reverse_watch.specs.Listing.{has, is_link, Same};
 use crate::list::Listed;
 use khepri_terms::Path;
 use std::alloc::{AllocError, Global};
-use std::collections::BTreeMap;
+use std::collections::HashMap;
 
 // The node comes into the list of a target.
 pub(crate) fn put(
     alloc: Global,
-    lists: &mut BTreeMap<Path, Listed>,
+    lists: &mut HashMap<Path, Listed>,
     target: &Path,
     node: &Path,
 ) -> Result<(), AllocError>
@@ -31,7 +31,7 @@ pub(crate) fn put(
 }
 
 // The node goes from the list of a target. It takes no memory. The answer tells that the list has nobody any more.
-fn cut_from(lists: &mut BTreeMap<Path, Listed>, target: &Path, node: &Path) -> bool
+fn cut_from(lists: &mut HashMap<Path, Listed>, target: &Path, node: &Path) -> bool
     ensures others { (q p : List NameText) → has lists.new.entries q p ≡ (has lists.old.entries q p && not (is_link (target.now ∷ []) node.now q p)) }
     ensures emptied { IsTrue result → find path_cmp target.now lists.new.entries ≡ Some [] }
 {
@@ -43,7 +43,7 @@ fn cut_from(lists: &mut BTreeMap<Path, Listed>, target: &Path, node: &Path) -> b
 }
 
 // The node goes from the list of a target, and the list where it was the last. It takes no memory.
-pub(crate) fn take(lists: &mut BTreeMap<Path, Listed>, target: &Path, node: &Path)
+pub(crate) fn take(lists: &mut HashMap<Path, Listed>, target: &Path, node: &Path)
     ensures { (q p : List NameText) → has lists.new.entries q p ≡ (has lists.old.entries q p && not (is_link (target.now ∷ []) node.now q p)) }
 {
     if cut_from(lists, target, node) {
@@ -54,7 +54,7 @@ pub(crate) fn take(lists: &mut BTreeMap<Path, Listed>, target: &Path, node: &Pat
 // The node comes into the lists of all targets, or of some where memory is wanting.
 pub(crate) fn put_all(
     alloc: Global,
-    lists: &mut BTreeMap<Path, Listed>,
+    lists: &mut HashMap<Path, Listed>,
     targets: &[Path],
     node: &Path,
 ) -> Result<(), AllocError>
@@ -69,7 +69,7 @@ pub(crate) fn put_all(
 }
 
 // The node goes from the lists of all targets. It takes no memory.
-pub(crate) fn take_all(lists: &mut BTreeMap<Path, Listed>, targets: &[Path], node: &Path)
+pub(crate) fn take_all(lists: &mut HashMap<Path, Listed>, targets: &[Path], node: &Path)
     ensures { (q p : List NameText) → has lists.new.entries q p ≡ (has lists.old.entries q p && not (is_link targets.now node.now q p)) }
 {
     let Some((target, rest)) = targets.split_first() else {

@@ -14,7 +14,7 @@ use Rattle.reverse_watch.proofs.change.cut_from.Goals as goal
 
 pub returns-in_default-clause-others : goal.returns-in_default-clause-others
 returns-in_default-clause-others c = λ q k.
-    ap (λ (m : Map). has m.entries q k) c.get_mut.follows.holds-at-none
+    ap (λ m. has m.entries q k) c.get_mut.follows.holds-at-none
     ∙ absent c.args.target.now c.args.node.now c.args.lists.now.entries (find_lookup c.args.target.now c.args.lists.now.entries ∙ sym (sym (ap option_copied_mut c.in_default.is) ∙ c.get_mut.ensures.value)) q k
 
 pub returns-clause-others : goal.returns-clause-others
