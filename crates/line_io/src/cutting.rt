@@ -16,11 +16,12 @@ pub fn keep(begun: &mut Vec<u8>, limit: usize, more: &[u8]) -> Result<(), AllocE
     begun.extend_from_slice(&more[..n])
 }
 
-// The line that an LF ended, where a front of it is kept.
+// The line that an LF ended, where a front of it is kept. A line that came in one piece takes the room of the spare.
 pub fn ended_line(
     alloc: Global,
     limit: usize,
     begun: &mut Vec<u8>,
+    spare: &mut Vec<u8>,
     more: &[u8],
 ) -> Result<Next, AllocError>
     requires front { length begun.old.items ≤ limit + 2 }
@@ -29,7 +30,7 @@ pub fn ended_line(
     ensures err { OnErr result (begun.new.items ≡ begun.old.items) }
 {
     if begun.len() == 0 {
-        return copied_line(alloc, limit, cut_cr(more));
+        return copied_line(alloc, limit, spare, cut_cr(more));
     }
     keep(begun, limit, more)?;
     let line = std::mem::replace(begun, Vec::new(alloc));
@@ -64,13 +65,22 @@ fn sized_line(limit: usize, line: Vec<u8>) -> Next
     Next::Line(line)
 }
 
-fn copied_line(alloc: Global, limit: usize, text: &[u8]) -> Result<Next, AllocError>
+// A line of this text, in the room of the spare.
+fn copied_line(
+    alloc: Global,
+    limit: usize,
+    spare: &mut Vec<u8>,
+    text: &[u8],
+) -> Result<Next, AllocError>
     ensures { IfOk result (λ next. given_next next ≡ shown limit text.now ∷ []) }
 {
     if text.len() > limit {
         return Ok(Next::TooLong);
     }
-    Ok(Next::Line(Vec::from_slice(alloc, text)?))
+    spare.clear();
+    spare.extend_from_slice(text)?;
+    let line = std::mem::replace(spare, Vec::new(alloc));
+    Ok(Next::Line(line))
 }
 
 fn cut_cr(line: &[u8]) -> &[u8]

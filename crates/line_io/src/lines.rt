@@ -24,6 +24,8 @@ pub struct Lines {
     ended: bool,
     // What came of a line in earlier pieces: its front, as far as it tells whether the line is too long.
     begun: Vec<u8>,
+    // Room for a line; what stands in it counts for nothing.
+    spare: Vec<u8>,
     // The last piece, and what is unread of it.
     piece: Vec<u8>,
     at: usize,
@@ -56,6 +58,7 @@ impl Lines {
             past: false,
             ended: false,
             begun: Vec::new(alloc),
+            spare: Vec::new(alloc),
             piece,
             at: 0,
             end: 0,
@@ -96,6 +99,15 @@ impl Lines {
         self.whole_line()
     }
 
+    /// Takes back what was given, so that a later line lies in its room.
+    pub fn reuse(&mut self, next: Next)
+        ensures { self.new ≡ self.old }
+    {
+        if let Next::Line(line) = next {
+            self.spare = line;
+        }
+    }
+
     fn has_ended(&self) -> bool
         ensures ended { result ≡ self.now.ended }
         ensures over { result ≡ true → (self.now.unread ≡ []) × (0 < self.now.room) }
@@ -119,7 +131,8 @@ impl Lines {
         match memchr(b'\n', rest) {
             None => Ok(None),
             Some(i) => {
-                let next = ended_line(self.alloc, self.limit, &mut self.begun, &rest[..i])?;
+                let (begun, spare) = (&mut self.begun, &mut self.spare);
+                let next = ended_line(self.alloc, self.limit, begun, spare, &rest[..i])?;
                 self.at += i + 1;
                 Ok(Some(next))
             }
