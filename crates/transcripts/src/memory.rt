@@ -21,6 +21,7 @@ pub struct Feed {
 }
 
 impl Feed {
+    /// A source of these bytes.
     pub fn new(alloc: Global, bytes: Vec<u8>, pace: Pace) -> Feed {
         Feed {
             source: MemSource::new(bytes, Vec::new(alloc)),
@@ -50,6 +51,7 @@ pub struct Drain {
 }
 
 impl Drain {
+    /// A sink that holds nothing.
     pub fn new(alloc: Global, pace: Pace) -> Drain {
         Drain {
             sink: MemSink::new(Vec::new(alloc), Vec::new(alloc)),

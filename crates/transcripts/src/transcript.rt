@@ -1,4 +1,4 @@
-// The files of transcripts, and the report of each.
+// Transcripts, those that are kept as files, and the report of each.
 use crate::compare::{Difference, first_difference};
 use crate::memory::{Drain, Feed, Pace};
 use session_core::{Status, session};
@@ -20,22 +20,40 @@ pub fn names_in(rt: &HostRuntime, folder: &str) -> io::Result<Vec<String>> {
     Ok(names)
 }
 
-/// Prints the name of a transcript, and below it where a session of its lines in doesn't write its lines out.
-pub fn report(rt: &HostRuntime, name: &str) -> io::Result<()> {
-    let alloc = rt.alloc();
-    let input = fs::read(rt, format!(in alloc; "{name}.in")?.as_str())?;
-    let output = fs::read(rt, format!(in alloc; "{name}.out")?.as_str())?;
-    println!(rt; "{name}")?;
-    compare(rt, input.as_slice(), output.as_slice(), Pace::Whole)?;
-    compare(rt, input.as_slice(), output.as_slice(), Pace::Single)
+/// The lines in and the lines out of a session, each with the ends of its lines.
+#[derive(Drop)]
+pub struct Transcript {
+    pub name: String,
+    pub input: Vec<u8>,
+    pub output: Vec<u8>,
 }
 
-fn compare(rt: &HostRuntime, input: &[u8], output: &[u8], pace: Pace) -> io::Result<()> {
-    let ran = run(rt.alloc(), input, pace)?;
+/// The transcript that is kept under a name.
+pub fn kept(rt: &HostRuntime, name: &str) -> io::Result<Transcript> {
+    let alloc = rt.alloc();
+    Ok(Transcript {
+        name: String::from_str(alloc, name)?,
+        input: fs::read(rt, format!(in alloc; "{name}.in")?.as_str())?,
+        output: fs::read(rt, format!(in alloc; "{name}.out")?.as_str())?,
+    })
+}
+
+/// Prints the name of a transcript, and below it where a session of its lines in, at one of these paces, doesn't write its lines
+/// out.
+pub fn report(rt: &HostRuntime, transcript: &Transcript, paces: &[Pace]) -> io::Result<()> {
+    println!(rt; "{}", transcript.name)?;
+    for pace in paces {
+        compare(rt, transcript, *pace)?;
+    }
+    Ok(())
+}
+
+fn compare(rt: &HostRuntime, transcript: &Transcript, pace: Pace) -> io::Result<()> {
+    let ran = run(rt.alloc(), transcript.input.as_slice(), pace)?;
     if ran.status != Status::Ended {
         println!(rt; "  {}: ended as {:?}", pace_name(pace), ran.status)?;
     }
-    match first_difference(output, ran.drain.bytes()) {
+    match first_difference(transcript.output.as_slice(), ran.drain.bytes()) {
         Some(difference) => tell(rt, pace, &difference),
         None => Ok(()),
     }
