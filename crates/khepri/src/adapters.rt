@@ -12,6 +12,7 @@ pub struct StdSource<R: Read + Drop> {
 }
 
 impl<R: Read + Drop> StdSource<R> {
+    /// A source over this reader, of which no read failed yet.
     pub fn new(reader: R) -> Self
         ensures { result.faults ≡ 0 }
     {
@@ -46,6 +47,7 @@ pub struct StdSink<W: Write + Drop> {
 }
 
 impl<W: Write + Drop> StdSink<W> {
+    /// A sink over this writer, of which no write failed yet.
     pub fn new(writer: W) -> Self
         ensures { result.faults ≡ 0 }
     {

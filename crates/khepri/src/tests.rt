@@ -113,32 +113,7 @@ fn session(alloc: Global, input: &[u8], way: Way) -> Result<Ran, AllocError> {
     run_of(alloc, &["session"], input, way)
 }
 
-// The first line that is not as expected, counted from 1.
-fn first_other_line(written: &[u8], expected: &[u8]) -> Option<usize> {
-    if written == expected {
-        return None;
-    }
-    let mut line: usize = 1;
-    for (byte, wanted) in written.iter().zip(expected) {
-        if byte != wanted {
-            break;
-        }
-        if *byte == b'\n' {
-            line = line.saturating_add(1);
-        }
-    }
-    Some(line)
-}
-
 static OPENING: &[u8] = b"! 1 leads 1\n";
-
-// The first line of a session that is not as expected behind its opening; 0 is the opening, or the status.
-fn first_wrong_line(ran: &Ran, output: &[u8]) -> Option<usize> {
-    match ran.sink.sink.bytes().strip_prefix(OPENING) {
-        Some(written) if ran.status == Status::Ended => first_other_line(written, output),
-        _ => Some(0),
-    }
-}
 
 static LINES: &[u8] =
     b"@1 put /a/b {x=1}\n@1 put /a/b {x=1}\n@1 put /a/b {x=2}\n@1 get /a\n@1 put / {x=1}\n";
@@ -338,103 +313,5 @@ fn first_known_words(alloc: Global) -> Result<Option<usize>, AllocError> {
 #[test]
 fn other_words_get_the_usage_line(rt: HostRuntime) -> Result<(), Fail> {
     assert_eq!(rt; first_known_words(rt.alloc())?, None);
-    Ok(())
-}
-
-// A session that is made up line by line.
-#[derive(Drop)]
-struct Script {
-    input: Vec<u8>,
-    output: Vec<u8>,
-    lines: usize,
-}
-
-fn push_all(out: &mut Vec<u8>, pieces: &[&[u8]]) -> Result<(), AllocError> {
-    for piece in pieces {
-        out.extend_from_slice(piece)?;
-    }
-    Ok(())
-}
-
-// Adds a command and its reply.
-fn ask(alloc: Global, script: &mut Script, cmd: &[u8], reply: &str) -> Result<(), AllocError> {
-    let n = script.lines.saturating_add(1);
-    script.lines = n;
-    push_all(&mut script.input, &[b"@1 ", cmd, b"\n"])?;
-    let head = format!(in alloc; "# {n} @{n} ")?;
-    let tail = format!(in alloc; "\n= {n} {n} {reply}\n")?;
-    push_all(&mut script.output, &[head.as_bytes(), cmd, tail.as_bytes()])
-}
-
-// Appends what stands before, the record of one field that has as many bytes, and what comes behind it.
-fn push_record(
-    alloc: Global,
-    text: &mut Vec<u8>,
-    front: &[u8],
-    bytes: usize,
-    rest: &[u8],
-) -> Result<(), AllocError> {
-    let letters = vec![in alloc; b'a'; bytes.saturating_sub(5)]?;
-    push_all(text, &[front, b"{k='", letters.as_slice(), b"}", rest])
-}
-
-// Appends watches, of which the last has a record of so many bytes.
-fn push_watches(alloc: Global, cmd: &mut Vec<u8>, last: usize) -> Result<(), AllocError> {
-    push_record(alloc, cmd, b" while / not(is(", 4_070, b"))")?;
-    push_record(alloc, cmd, b" while / not(is(", 4_070, b"))")?;
-    push_record(alloc, cmd, b" while / not(is(", last, b"))")
-}
-
-// A put of a node of 12,270 bytes and of those of the record in its last watch.
-fn large_put(alloc: Global, name: usize, last: usize) -> Result<Vec<u8>, AllocError> {
-    let head = format!(in alloc; "put /{name} ")?;
-    let mut cmd = Vec::new(alloc);
-    push_record(alloc, &mut cmd, head.as_bytes(), 4_096, b"")?;
-    push_watches(alloc, &mut cmd, last)?;
-    Ok(cmd)
-}
-
-fn ask_for_large(
-    alloc: Global,
-    script: &mut Script,
-    name: usize,
-    last: usize,
-    reply: &str,
-) -> Result<(), AllocError> {
-    let cmd = large_put(alloc, name, last)?;
-    ask(alloc, script, cmd.as_slice(), reply)
-}
-
-// The first line of a script that is answered otherwise.
-fn first_wrong_reply(alloc: Global, script: &Script) -> Result<Option<usize>, AllocError> {
-    let ran = session(alloc, script.input.as_slice(), FAST)?;
-    Ok(first_wrong_line(&ran, script.output.as_slice()))
-}
-
-// Adds 1,026 nodes of 16,340 bytes, and one that leaves no byte beside the root's one.
-fn fill(alloc: Global, script: &mut Script) -> Result<(), AllocError> {
-    for name in 1_000..2_026 {
-        ask_for_large(alloc, script, name, 4_070, "ok 1 0")?;
-    }
-    ask_for_large(alloc, script, 2_026, 106, "no full")?;
-    ask_for_large(alloc, script, 2_026, 105, "ok 1 0")?;
-    ask(alloc, script, b"put /a -", "no full")?;
-    ask(alloc, script, b"put / {}", "no full")
-}
-
-// The first line that a full tree answers otherwise.
-fn first_wrong_of_a_full_tree(alloc: Global) -> Result<Option<usize>, AllocError> {
-    let mut script = Script {
-        input: Vec::new(alloc),
-        output: Vec::new(alloc),
-        lines: 0,
-    };
-    fill(alloc, &mut script)?;
-    first_wrong_reply(alloc, &script)
-}
-
-#[test]
-fn a_full_tree_takes_no_more(rt: HostRuntime) -> Result<(), Fail> {
-    assert_eq!(rt; first_wrong_of_a_full_tree(rt.alloc())?, None);
     Ok(())
 }
