@@ -31,6 +31,7 @@ impl Model for KhepriMachine {
 }
 
 impl KhepriMachine {
+    /// A machine that has applied nothing: its tree is the root alone.
     pub fn fresh(alloc: Global) -> Result<KhepriMachine, AllocError>
         ensures { IfOk result (λ m. m ≡ opening_state) }
     {
