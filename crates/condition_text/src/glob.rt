@@ -66,8 +66,12 @@ fn read_piece(text: &[u8]) -> Option<(GlobPiece, &[u8])>
     }
 }
 
-impl Item for GlobPiece {
+struct PieceItem;
+
+impl Item for PieceItem {
     ghost use Rattle.khepri_types.specs.Globs.{piece_at};
+
+    type Value = GlobPiece;
 
     ghost item_at = { piece_at };
 
@@ -84,7 +88,7 @@ fn read_kind(alloc: Global, kind: Kind, text: &[u8]) -> Result<(Glob, &[u8]), Te
     ensures value { IfOk result (λ x. globbed kind (many piece_at MAX_GLOB_PIECES text.now) ≡ Some (x.0, x.1.now)) }
     ensures bad { result ≡ Err TextFault.Bad → globbed kind (many piece_at MAX_GLOB_PIECES text.now) ≡ None }
 {
-    let (pieces, rest) = read_many::<GlobPiece>(alloc, text, MAX_GLOB_PIECES)?;
+    let (pieces, rest) = read_many::<PieceItem>(alloc, text, MAX_GLOB_PIECES)?;
     if pieces.len() == 0 {
         return Err(TextFault::Bad);
     }

@@ -6,23 +6,26 @@ use khepri_terms::TextFault;
 use khepri_terms::texts::read_byte;
 use std::alloc::{AllocError, Global};
 
-/// What may stand several times in a row.
-pub trait Item: Sized + Drop {
-    /// The item that is spelled at the front, and what is after it.
-    ghost item_at: { List ℕ → Option (Self × List ℕ) };
+/// A form that may stand several times in a row.
+pub trait Item {
+    /// What is read.
+    type Value: Drop;
 
-    /// The item at the front, and what is after it.
-    fn read_item(alloc: Global, text: &[u8]) -> Result<(Self, &[u8]), TextFault>
+    /// The value that is spelled at the front, and what is after it.
+    ghost item_at: { List ℕ → Option (Self.Value × List ℕ) };
+
+    /// The value at the front, and what is after it.
+    fn read_item(alloc: Global, text: &[u8]) -> Result<(Self::Value, &[u8]), TextFault>
         ensures value { IfOk result (λ x. item_at text.now ≡ Some (x.0, x.1.now)) }
         ensures bad { result ≡ Err TextFault.Bad → item_at text.now ≡ None };
 }
 
-/// As many items as stand at the front, at most `most`, and what is after them.
+/// As many as stand at the front, at most `most`, and what is after them.
 pub fn read_many<T: Item>(
     alloc: Global,
     text: &[u8],
     most: usize,
-) -> Result<(Vec<T>, &[u8]), AllocError>
+) -> Result<(Vec<T::Value>, &[u8]), AllocError>
     ensures value { IfOk result (λ x. many T.item_at most text.now ≡ (x.0.items, x.1.now)) }
     ensures few { IfOk result (λ x. length x.0.items ≤ most) }
 {
@@ -41,8 +44,13 @@ pub fn read_many<T: Item>(
     Ok((items, rest))
 }
 
-impl Item for u8 {
+/// The spelling of one byte.
+pub struct ByteItem;
+
+impl Item for ByteItem {
     ghost use Rattle.khepri_terms.specs.Bytes.{byte_at};
+
+    type Value = u8;
 
     ghost item_at = { byte_at };
 

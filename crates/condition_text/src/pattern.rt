@@ -109,11 +109,15 @@ fn read_stages(alloc: Global, text: &[u8]) -> Result<(Vec<PatternPart>, &[u8]), 
     ensures value { IfOk result (λ x. many stage_at MAX_PATTERN_PARTS text.now ≡ (x.0.items, x.1.now)) }
     ensures within { IfOk result (λ x. length x.1.now ≤ length text.now) }
 {
-    read_many(alloc, text, MAX_PATTERN_PARTS)
+    read_many::<StageItem>(alloc, text, MAX_PATTERN_PARTS)
 }
 
-impl Item for PatternPart {
+struct StageItem;
+
+impl Item for StageItem {
     ghost use Rattle.khepri_types.specs.ReadingConditions.{stage_at};
+
+    type Value = PatternPart;
 
     ghost item_at = { stage_at };
 

@@ -80,7 +80,7 @@ pub(crate) fn read_nodes(alloc: Global, text: &[u8]) -> Result<Reply, TextFault>
     let Some((count, rest)) = read_number(text, MAX_NUMBER) else {
         return Err(TextFault::Bad);
     };
-    let (nodes, rest) = read_many::<ShownNode>(alloc, rest, rest.len())?;
+    let (nodes, rest) = read_many::<ShownItem>(alloc, rest, rest.len())?;
     match rest {
         [] => Ok(Reply::Nodes {
             count,
@@ -90,8 +90,12 @@ pub(crate) fn read_nodes(alloc: Global, text: &[u8]) -> Result<Reply, TextFault>
     }
 }
 
-impl Item for ShownNode {
+struct ShownItem;
+
+impl Item for ShownItem {
     ghost use Rattle.khepri_types.specs.ReadingOut.{shown_at};
+
+    type Value = ShownNode;
 
     ghost item_at = { shown_at };
 

@@ -87,7 +87,7 @@ fn read_whole_watches(alloc: Global, text: &[u8]) -> Result<Watching, TextFault>
     ensures value { IfOk result (λ x. whole_watches (many watch_at MAX_WATCHES text.now) ≡ Some x) }
     ensures bad { result ≡ Err TextFault.Bad → whole_watches (many watch_at MAX_WATCHES text.now) ≡ None }
 {
-    let (watches, rest) = read_many::<Watch>(alloc, text, MAX_WATCHES)?;
+    let (watches, rest) = read_many::<WatchItem>(alloc, text, MAX_WATCHES)?;
     if watches.len() == 0 {
         return Err(TextFault::Bad);
     }
@@ -112,8 +112,12 @@ pub(crate) fn read_asked(alloc: Global, text: &[u8]) -> Result<(Path, Condition,
     Ok((path, cond, rest))
 }
 
-impl Item for Watch {
+struct WatchItem;
+
+impl Item for WatchItem {
     ghost use Rattle.khepri_types.specs.Reading.{watch_at};
+
+    type Value = Watch;
 
     ghost item_at = { watch_at };
 
