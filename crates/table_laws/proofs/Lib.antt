@@ -1,0 +1,6 @@
+pub mod BracketSpelling
+pub mod SourceSpelling
+pub mod ListLaws
+mod Wholes
+pub mod ProjectionSpelling
+pub mod RowSpelling
