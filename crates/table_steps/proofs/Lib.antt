@@ -1,0 +1,4 @@
+mod Looks
+mod Histories
+mod Commands
+mod Widths
