@@ -1,5 +1,5 @@
 -- A text is read exactly where it is a spelling.
-use Rattle.std.proofs.Common.{◌≡◌, ℕ, List, ◌++◌, ap, ◌∙◌, Option, Some, None}
+use Rattle.std.proofs.Common.{◌≡◌, ℕ, List, ap, ◌∙◌, Option, Some, None}
 use Rattle.khepri_terms.specs.Terms.{NameText}
 use Rattle.khepri_types.specs.declared.projection.Projection.{Projection}
 use Rattle.khepri_types.specs.declared.shown_row.ShownRow.{ShownRow}

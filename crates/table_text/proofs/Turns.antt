@@ -1,7 +1,7 @@
 -- Turns of the loop that reads a list.
 use Rattle.std.proofs.Common.{◌≡◌, ℕ, zero, suc, ◌+◌, ◌-◌, ◌<◌, Bool, true, false, cond, List, [], ◌∷◌, ◌++◌, length, refl, sym, ap, ◌∙◌, append_assoc, arith, Option, Some, None}
 use Rattle.std.proofs.lemmas.List.{length-append}
-use Rattle.khepri_terms.specs.Many.{◌>>=◌, onto}
+use Rattle.khepri_terms.specs.Many.{◌>>=◌}
 use Rattle.khepri_terms.proofs.Reading.{beyond}
 use Rattle.khepri_types.specs.Lists.{onto_read, sign_at, items_at}
 
