@@ -27,12 +27,12 @@ pub fn answer(
     alloc: Global,
     machine: &mut KhepriMachine,
     number: u64,
-    next: Next,
+    next: &Next,
     out: &mut Vec<u8>,
 ) -> Result<(), AllocError>
     requires { machine.old.position < 2 ^ 40 }
-    ensures text { OnOk result (out.new.items ≡ out.old.items ++ text_of (told number machine.old (given_next next))) }
-    ensures state { OnOk result (machine.new ≡ after number machine.old (given_next next)) }
+    ensures text { OnOk result (out.new.items ≡ out.old.items ++ text_of (told number machine.old (given_next next.now))) }
+    ensures state { OnOk result (machine.new ≡ after number machine.old (given_next next.now)) }
     ensures err { OnErr result (out.new.items ≡ out.old.items) }
 {
     let len = out.len();
@@ -45,12 +45,12 @@ fn answer_next(
     alloc: Global,
     machine: &mut KhepriMachine,
     number: u64,
-    next: Next,
+    next: &Next,
     out: &mut Vec<u8>,
 ) -> Result<(), AllocError>
     requires { machine.old.position < 2 ^ 40 }
-    ensures text { OnOk result (out.new.items ≡ out.old.items ++ text_of (told number machine.old (given_next next))) }
-    ensures state { OnOk result (machine.new ≡ after number machine.old (given_next next)) }
+    ensures text { OnOk result (out.new.items ≡ out.old.items ++ text_of (told number machine.old (given_next next.now))) }
+    ensures state { OnOk result (machine.new ≡ after number machine.old (given_next next.now)) }
     ensures front { take (length out.old.items) out.new.items ≡ out.old.items }
 {
     match next {

@@ -65,9 +65,10 @@ fn answer_all<S: Source, K: Sink>(
         if let Next::End = next {
             return Status::Ended;
         }
-        if answer(alloc, machine, number, next, out).is_err() {
+        if answer(alloc, machine, number, &next, out).is_err() {
             return part(out.as_slice(), sink);
         }
+        lines.reuse(next);
         number += 1;
     }
 }

@@ -1,7 +1,8 @@
-use Rattle.std.proofs.Common.{◌≡◌, true, false, Result, Ok, Err, sym, ◌∙◌, arith}
+use Rattle.std.proofs.Common.{◌≡◌, ◌+◌, true, false, Result, Ok, Err, sym, subst, ◌∙◌, arith}
 use Rattle.std.specs.Result.{OnOk, OnErr, is_err}
+use Rattle.line_io.specs.Reading.{Reading}
 use Rattle.session_core.proofs.Telling.{told_text-none}
-use Rattle.session_core.proofs.Amid.{amid-none, due, due_room, answered, on_end, on_stop, stop_source, stop_sink, on_part, part_source, part_sink}
+use Rattle.session_core.proofs.Amid.{Amid, amid-none, due, due_room, answered, on_end, on_stop, stop_source, stop_sink, on_part, part_source, part_sink}
 use Rattle.session_core.proofs.turns.answer_all.Goals as goal
 
 ok_part : {X E P : Type 0} (r : Result X E) → is_err r ≡ false → OnOk r P → P
@@ -55,7 +56,9 @@ lines-preserved g c =
     let a = due _ _ _ _ _ _ _ _ _ _ _ _ _ _ _ c.lines.invariant.amid c.in-Ok.ensures.turn c.in_default.not-End in
     let ok = sym c.is_err.ensures.value ∙ c.if-is_err.false in
     record {
-      amid = answered _ _ _ _ _ _ _ _ _ _ _ a (ok_part c.answer.result ok c.answer.ensures.text) (ok_part c.answer.result ok c.answer.ensures.state);
+      amid = subst (λ (r : Reading). Amid (g.S.Source.left c.args.source.now) (g.K.Sink.held c.args.sink.now) (g.S.Source.left c.next_line.new.source) (g.K.Sink.held c.next_line.new.sink) r (c.lines.number + 1) c.answer.new.machine c.answer.new.out.items)
+          (sym c.reuse.ensures)
+          (answered _ _ _ _ _ _ _ _ _ _ _ a (ok_part c.answer.result ok c.answer.ensures.text) (ok_part c.answer.result ok c.answer.ensures.state));
       source = omega (arith, c.lines.invariant.source, c.next_line.ensures.source);
       sink = omega (arith, c.lines.invariant.sink, c.next_line.ensures.sink);
     }
