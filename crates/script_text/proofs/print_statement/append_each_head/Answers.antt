@@ -1,0 +1,8 @@
+use Rattle.khepri_terms.proofs.Printing.{front_then}
+use Rattle.script_text.proofs.print_statement.append_each_head.Goals as goal
+
+pub returns-in_err-append_pattern-clause-front : goal.returns-in_err-append_pattern-clause-front
+returns-in_err-append_pattern-clause-front c = front_then _ _ _ c.in_ok-append_named.ensures.front c.in_err-append_pattern.ensures.front
+
+pub returns-clause-front : goal.returns-clause-front
+returns-clause-front c = front_then _ _ _ c.in_ok-append_named.ensures.front (front_then _ _ _ c.in_ok-append_pattern.ensures.front c.append_word.ensures.front)

@@ -1,0 +1,65 @@
+use Rattle.std.proofs.Common.{◌-◌, ◌∷◌, [], Bool, length, ap, ◌∙◌, Some, Err, arith}
+use Rattle.khepri_terms.specs.declared.fault.TextFault.{TextFault}
+use Rattle.khepri_terms.specs.declared.fault.TextFault.TheVariants.{Bad}
+use Rattle.khepri_terms.proofs.Cases.{err_is}
+use Rattle.std.proofs.lemmas.List.{length-append}
+use Rattle.std.proofs.lemmas.Result.{err_from_is_err_and}
+use Rattle.khepri_types.specs.Items.{some_items}
+use Rattle.script_text.specs.Forms.{statement_in}
+use Rattle.script_text.proofs.Nesting.{block_none, block_step, statement_none, statement_step}
+use Rattle.script_text.proofs.Lists.{items_past, items_none, items_odd, items_last, items_on, items_fail}
+use Rattle.script_text.proofs.statement.+reading.Goals as goal
+
+pub read_block-returns-then-nesting-eq0-clause-bad : goal.read_block-returns-then-nesting-eq0-clause-bad
+read_block-returns-then-nesting-eq0-clause-bad t c = λ _. block_none c.args.nesting c.args.close c.args.left c.args.text.now (omega arith)
+
+pub read_block-returns-clause-value : goal.read_block-returns-clause-value
+read_block-returns-clause-value t c = rw (block_step c.args.nesting c.args.close c.args.left c.args.text.now (omega arith)) c.read_items.ensures.value
+
+pub read_block-returns-clause-bad : goal.read_block-returns-clause-bad
+read_block-returns-clause-bad t c = λ e. block_step c.args.nesting c.args.close c.args.left c.args.text.now (omega arith) ∙ c.read_items.ensures.bad e
+
+pub read_statement-returns-then-left-eq0-clause-bad : goal.read_statement-returns-then-left-eq0-clause-bad
+read_statement-returns-then-left-eq0-clause-bad t c = λ _. statement_none c.args.nesting c.args.left c.args.text.now (omega arith)
+
+pub read_statement-returns-clause-value : goal.read_statement-returns-clause-value
+read_statement-returns-clause-value t c = rw (statement_step c.args.nesting c.args.left c.args.text.now (omega arith)) c.read_worded.ensures.value
+
+pub read_statement-returns-clause-bad : goal.read_statement-returns-clause-bad
+read_statement-returns-clause-bad t c = λ e. statement_step c.args.nesting c.args.left c.args.text.now (omega arith) ∙ c.read_worded.ensures.bad e
+
+pub read_statements-returns-clause-bad : goal.read_statements-returns-clause-bad
+read_statements-returns-clause-bad t c =
+    let item = statement_in c.args.nesting in
+    let k = c.args.left - length c.statements.block in
+    λ _. items_fail (some_items c.args.close item c.args.left c.args.left c.args.text.now) (some_items c.args.close item k c.statements.more c.statements.rest.now) c.statements.block (items_past c.args.close item k c.statements.more c.statements.rest.now (omega arith)) c.statements.invariant.read
+
+pub read_statements-returns-in_err-one-clause-bad : goal.read_statements-returns-in_err-one-clause-bad
+read_statements-returns-in_err-one-clause-bad t c =
+    let item = statement_in c.args.nesting in
+    let k = c.args.left - length c.statements.block in
+    let p = err_from_is_err_and c.from_residual.result c.from_residual.ensures.1 in
+    rw (p.1, p.2) (λ h. items_fail (some_items c.args.close item c.args.left c.args.left c.args.text.now) (some_items c.args.close item k c.statements.more c.statements.rest.now) c.statements.block (items_none c.args.close item k c.statements.more c.statements.rest.now (c.in_err-one.ensures.bad (ap (λ (d : TextFault). Err d) (err_is c.in_err-one.field-0.0 Bad h)))) c.statements.invariant.read)
+
+pub read_statements-returns-in_err-is_last-clause-bad : goal.read_statements-returns-in_err-is_last-clause-bad
+read_statements-returns-in_err-is_last-clause-bad t c =
+    let item = statement_in c.args.nesting in
+    let k = c.args.left - length c.statements.block in
+    let p = err_from_is_err_and c.from_residual-in_err-is_last.result c.from_residual-in_err-is_last.ensures.1 in
+    rw (p.1, p.2) (λ h. items_fail (some_items c.args.close item c.args.left c.args.left c.args.text.now) (some_items c.args.close item k c.statements.more c.statements.rest.now) c.statements.block
+    (items_odd c.args.close item k c.statements.more c.in_ok-one.fewer c.statements.rest.now c.in_ok-one.after.now c.in_ok-one.one c.in_ok-one.ensures.value (c.in_err-is_last.ensures.bad (ap (λ (d : TextFault). Err d) (err_is c.in_err-is_last.field-0.0 Bad h)))) c.statements.invariant.read)
+
+pub read_statements-returns-then-is_last-clause-value : goal.read_statements-returns-then-is_last-clause-value
+read_statements-returns-then-is_last-clause-value t c =
+    let item = statement_in c.args.nesting in
+    items_last c.args.close item (some_items c.args.close item c.args.left c.args.left c.args.text.now) c.args.left c.statements.more c.in_ok-one.fewer c.statements.block c.push.new.self c.in_ok-one.one c.statements.rest.now c.in_ok-one.after.now c.in_ok-is_last.next.now (omega arith) c.in_ok-one.ensures.value
+    (c.in_ok-is_last.ensures.value ∙ ap (λ (b : Bool). Some (b, c.in_ok-is_last.next.now)) c.if-is_last.true) c.in_ok-push.ensures.ok c.statements.invariant.read
+
+pub read_statements-statements-preserved : goal.read_statements-statements-preserved
+read_statements-statements-preserved t c =
+    let item = statement_in c.args.nesting in
+    record {
+      read = items_on c.args.close item (some_items c.args.close item c.args.left c.args.left c.args.text.now) c.args.left c.statements.more c.in_ok-one.fewer c.statements.block c.push.new.self c.in_ok-one.one c.statements.rest.now c.in_ok-one.after.now c.in_ok-is_last.next.now (omega arith) c.in_ok-one.ensures.value
+          (c.in_ok-is_last.ensures.value ∙ ap (λ (b : Bool). Some (b, c.in_ok-is_last.next.now)) c.if-is_last.false) c.in_ok-push.ensures.ok c.statements.invariant.read;
+      few = omega (arith, ap length c.in_ok-push.ensures.ok, length-append c.statements.block (c.in_ok-one.one ∷ []));
+    }

@@ -1,0 +1,16 @@
+//! Scripts as bytes, both ways: a script is read from the front of a text and printed. Its limits (bytes, statements and expressions,
+//! nesting) are those of the grammar: a text that passes one is no script. The crate knows nothing of types, of what a script does, or
+//! of the lines that scripts stand in.
+#![tactic(auto)]
+
+mod expression;
+mod leaf;
+mod parts;
+mod print_expr;
+mod print_statement;
+mod printing;
+mod script;
+mod statement;
+mod words;
+
+pub use script::{print_script, read_script};
