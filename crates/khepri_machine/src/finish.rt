@@ -23,10 +23,11 @@ use step_count::Steps;
 use tree_nodes::Draft;
 
 // Gives the node at the path the watches that are said.
-pub(crate) fn give_watches(
+pub(crate) fn give_watches<L: Ledger>(
     draft: &mut Draft,
     path: &Path,
     said: &Watching,
+    steps: &mut Steps<L>,
 ) -> Result<(), AllocError>
     requires stands { IsTrue (stands draft.old.tree path.now) }
     ensures base { draft.new.base ≡ draft.old.base }
@@ -36,9 +37,9 @@ pub(crate) fn give_watches(
         Watching::Stay => Ok(()),
         Watching::Free => {
             let none = Watches::none(draft.alloc());
-            draft.set_watches(path, &none)
+            draft.set_watches(path, &none, steps)
         }
-        Watching::While(watches) => draft.set_watches(path, watches),
+        Watching::While(watches) => draft.set_watches(path, watches, steps),
     }
 }
 

@@ -322,7 +322,7 @@ impl Kept {
     {
         let mut draft = self.tree.draft();
         let version = draft.set(path, payload, steps)?;
-        give_watches(&mut draft, path, watch)?;
+        give_watches(&mut draft, path, watch, steps)?;
         finish_write(draft, &self.watchers, path, version, steps)
     }
 

@@ -178,14 +178,21 @@ impl<'a> Draft<'a> {
         Ok(count)
     }
 
-    /// Gives the node at the path these watches in place of its own.
-    pub fn set_watches(&mut self, path: &Path, watches: &Watches) -> Result<(), AllocError>
+    /// Gives the node at the path these watches in place of its own: one step.
+    pub fn set_watches<L: Ledger>(
+        &mut self,
+        path: &Path,
+        watches: &Watches,
+        steps: &mut Steps<L>,
+    ) -> Result<(), AllocError>
         requires stands { IsTrue (stands self.old.tree path.now) }
         ensures base { self.new.base ≡ self.old.base }
         ensures tree { OnOk result (self.new.tree ≡ given_watches self.old.tree path.now watches.now (get self.old.tree path.now)) }
         ensures touches { OnOk result ((q : List NameText) → is_touched self.new.touched q ≡ (is_eq (path_cmp path.now q) || is_touched self.old.touched q)) }
         ensures stays { StaysTouched self.old.touched self.new.touched }
+        ensures steps { steps.new ≡ steps.old + 1 }
     {
+        steps.tick();
         set_watches(&mut self.nested, path, watches)
     }
 

@@ -138,6 +138,10 @@ none_flagged p (x ∷ es) none =
     itself : (q : List NameText) → eq_by_cmp path_cmp q q ≡ true
     itself q = ap is_eq (tied_itself path_cmp_total q)
 
+-- where no path that stands is a child, there is none
+pub kids-none : (M : Tree) (p : List NameText) → ((q : List NameText) → is_some (get M q) ≡ true → is_child p q ≡ false) → kids M p ≡ 0
+kids-none M p none = kids_sum M p ∙ none_flagged p (entries M) (λ q h. none q (ap is_some (get-entries M q) ∙ h))
+
 -- a path that is missing has no children
 pub childless : (ps : Rows Node) (p : List NameText) → IsNest name_cmp ps → false ≡ is_some (find path_cmp p ps) → children ps p ≡ 0
 childless ps p nest none = none_flagged p ps (λ q h. elim (is_child p q) as (λ t. is_child p q ≡ t → t ≡ false) [

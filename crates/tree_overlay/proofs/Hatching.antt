@@ -1,5 +1,5 @@
 -- The children of each path of a draft.
-use Rattle.std.proofs.Common.{◌≡◌, inl, inr, ℕ, zero, suc, ◌+◌, ◌<◌, Bool, true, false, cond, not, List, [], ◌∷◌, ◌++◌, length, take, refl, sym, ap, subst, ◌∙◌, arith, Option, Some, None, ◌&&◌, ◌||◌}
+use Rattle.std.proofs.Common.{◌≡◌, inl, inr, ℕ, zero, suc, ◌+◌, ◌<◌, Bool, true, false, cond, not, List, [], ◌∷◌, ◌++◌, length, length-append, take, refl, sym, ap, subst, ◌∙◌, arith, Option, Some, None, ◌&&◌, ◌||◌}
 use Rattle.std.specs.Prelude.{IsTrue, is_some}
 use Rattle.std.specs.Map.{lookup}
 use Rattle.std.specs.BTreeMap.{BTreeMap, UpdatesBy, is_at}
@@ -16,7 +16,7 @@ use Rattle.khepri_types.specs.Sizes.{kids}
 use Rattle.khepri_types.specs.Tree.{Tree, IsTree, stands}
 use Rattle.khepri_types.specs.Paths.{is_child}
 use Rattle.khepri_types.proofs.Order.{name_cmp_total, name_cmp-same, path_cmp_total, path_cmp-same}
-use Rattle.khepri_types.proofs.Fronts.{one_parent}
+use Rattle.khepri_types.proofs.Fronts.{child_long, child_taken, one_parent}
 use Rattle.khepri_types.proofs.Trees.{tie_is}
 use Rattle.khepri_types.proofs.Growing.{get_some, tree-insert}
 use Rattle.nested_nodes.specs.Marks.{told, is_gone, is_here}
@@ -26,7 +26,7 @@ use Rattle.tree_overlay.specs.Over.{over}
 use Rattle.tree_overlay.specs.Broods.{marks_of, count_of, look, IsDrafted, SameLooks, SameCounts, Marks}
 use Rattle.tree_overlay.proofs.Overlay.{Map, over-put}
 use Rattle.tree_overlay.proofs.Applying.{take_front}
-use Rattle.tree_overlay.proofs.Counting.{flag, kids-new, kids-old, kids-gone, len-gone}
+use Rattle.tree_overlay.proofs.Counting.{flag, kids-new, kids-none, kids-old, kids-gone, len-gone}
 
 abbrev pub Brooding : Type 0
 Brooding = BTreeMap (List NameText) Brood
@@ -132,7 +132,7 @@ snoc_same (x ∷ p) (y ∷ q) m n e =
     let both = snoc_same p q m n rest in
     ((λ i. first i ∷ both.0 i), both.1)
 
-child_of : (p : List NameText) (n : NameText) → is_child p (p ++ n ∷ []) ≡ true
+pub child_of : (p : List NameText) (n : NameText) → is_child p (p ++ n ∷ []) ≡ true
 unfolding is_child
 child_of [] n = refl
 child_of (x ∷ p) n = ap (λ (r : Ordering). is_eq r && is_child p (p ++ n ∷ [])) (tied_itself name_cmp_total x) ∙ child_of p n
@@ -280,3 +280,20 @@ pub drafted-known : (B T : Tree) (bs cs ds : List (List NameText × Brood)) (nod
     → SameLooks bs cs → ((C : Tree) → count ≡ count_of C above (find path_cmp above bs) → SameCounts C bs cs) → Marks above x true cs ds → ((C : Tree) → SameCounts C cs ds) → IsDrafted B T ds nodes
 drafted-known B T bs cs ds nodes count above p x parts d there known looks counts marks more =
     drafted-marked B T cs ds nodes above x true (drafted-alike B T bs cs nodes d looks (counts B (known ∙ sym (d.kids above)))) (ap (stands T) (sym parts) ∙ there) marks (more B)
+
+-- a child is the path and one name more
+child_name : (p q : List NameText) → is_child p q ≡ true → (m : NameText) × (q ≡ p ++ m ∷ [])
+child_name p q t =
+    let next = next_name q (length p) (omega (arith, child_long p q t)) in
+    (next.0, sym (take_all (suc (length p)) q (omega (arith, child_long p q t))) ∙ (next.1 ∙ ap (λ (r : List NameText). r ++ next.0 ∷ []) (child_taken p q t)))
+
+-- a path of which no child stands has none
+pub no_kids : (T : Tree) (p : List NameText) → ((m : NameText) → IsTrue (stands T (p ++ m ∷ [])) → ⊥) → kids T p ≡ 0
+no_kids T p none = kids-none T p (λ q h. elim (is_child p q) as (λ t. is_child p q ≡ t → t ≡ false) [
+  | true ↦ λ t. let n = child_name p q t in absurd (none n.0 (sym (ap (stands T) n.1) ∙ h))
+  | false ↦ λ t. refl
+] refl)
+
+-- a path at which no node stands has none
+pub missing_kids : (T : Tree) (p : List NameText) → IsTree T → get T p ≡ None → kids T p ≡ 0
+missing_kids T p tree none = no_kids T p (λ m h. absurd (cc (none, tree.fronts (p ++ m ∷ []) (length p) (omega (arith, length-append p (m ∷ []))) h, ap (stands T) (take_front p (m ∷ [])))))

@@ -5,3 +5,4 @@ pub mod Hatching
 pub mod Marking
 pub mod Seeing
 pub mod Shallow
+pub mod Keeping

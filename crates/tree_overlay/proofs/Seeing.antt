@@ -136,3 +136,12 @@ pub child-next : (ps rs : Rows Node) (p : List NameText) (after o : Option NameT
 child-next ps rs p after o nest sub next =
     subst (λ (f : NameText → Bool). IsNext name_cmp (λ n. IsTrue (f n)) after o)
     (λ i n. (ap is_some (sub.finds (n ∷ []) ∙ sym (get-rows ps (p ++ n ∷ []) nest))) i) next
+
+-- the number of children that is seen
+pub seen-kids : (T : Tree) (p : List NameText) (v : NodeView) → Some (as_seen v) ≡ seen_at T p → get T p ≡ Some (node_of v) → v.kids ≡ kids T p
+seen-kids T p v seen found =
+    let there : as_seen v ≡ sight p (node_of v) (kids T p) = some_is (seen ∙ sym (seen-there T p (node_of v) (kids T p) found refl)) in
+    ap (λ (s : Seen). s.kids) there
+  where
+    some_is : {x y : Seen} → Some x ≡ Some y → x ≡ y
+    some_is e = cc

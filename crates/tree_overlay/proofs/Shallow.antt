@@ -1,17 +1,19 @@
 -- How deep nodes stand, and how many bytes they have, as they come, change and go.
-use Rattle.std.proofs.Common.{◌≡◌, inl, inr, ℕ, ◌+◌, ◌≤◌, Bool, true, false, cond, List, [], ◌∷◌, length, refl, sym, ap, subst, ◌∙◌, arith, Option, Some, None}
+use Rattle.std.proofs.Common.{◌≡◌, inl, inr, ℕ, ◌+◌, ◌-◌, ◌≤◌, Bool, true, false, cond, List, [], ◌∷◌, length, take, refl, sym, ap, subst, ◌∙◌, arith, Option, Some, None}
 use Rattle.std.specs.Prelude.{IsTrue, is_some}
 use Rattle.std.specs.BTreeMap.{UpdatesBy}
 use Rattle.std.specs.FinMap.{get, insert, remove}
 use Rattle.khepri_terms.specs.Terms.{NameText}
+use Rattle.khepri_terms.specs.Lengths.{capped}
 use Rattle.khepri_terms.specs.Order.{path_cmp}
 use Rattle.khepri_types.specs.declared.limits.TheConstants.{MAX_PATH_NAMES}
 use Rattle.khepri_types.specs.declared.node.Node.{Node}
-use Rattle.khepri_types.specs.Sizes.{bytes, node_bytes}
+use Rattle.khepri_types.specs.Sizes.{bytes, kids, node_bytes}
 use Rattle.khepri_types.specs.Tree.{Tree, stands, opening_tree}
 use Rattle.khepri_types.proofs.Growing.{same_or_apart, bytes-insert}
 use Rattle.khepri_types.proofs.Standing.{get-opening}
 use Rattle.khepri_types.proofs.Trees.{get-other}
+use Rattle.tree_overlay.specs.Measures.{HasBytes, HasSiblings}
 use Rattle.tree_overlay.specs.Over.{IsShallow, over, changed_at}
 use Rattle.tree_overlay.proofs.Overlay.{Map, over-put}
 use Rattle.tree_overlay.proofs.Counting.{bytes-old, bytes-gone}
@@ -50,3 +52,11 @@ bytes-cut B m n p w rest up some beside = let all = ap bytes (over-put B m n p N
 -- one node has no more bytes than all
 pub bytes-part : (T : Tree) (p : List NameText) (w : Node) → get T p ≡ Some w → node_bytes (p, w) ≤ bytes T
 bytes-part T p w some = omega (arith, bytes-gone T p w some)
+
+-- what is left of the bytes of all beside one node
+pub beside : (T : Tree) (p : List NameText) (was all : ℕ) → HasBytes T p was → all ≡ bytes T → all ≡ capped (bytes T) → (w : Node) → get T p ≡ Some w → (was ≤ all) × ((all - was) + node_bytes (p, w) ≡ bytes T)
+beside T p was all has is cap w some = let part = bytes-part T p w some in let own = has w some in (omega (arith, part, own, is, cap), omega (arith, part, own, is, cap))
+
+-- the number of siblings, told of the path above
+pub before_known : (T : Tree) (p above : List NameText) (before : ℕ) (k : ℕ) → HasSiblings T p before → above ≡ take k p → k ≡ length p - 1 → before ≡ kids T above
+before_known T p above before k has front is = has ∙ ap (kids T) (ap (λ (i : ℕ). take i p) (sym is) ∙ sym front)

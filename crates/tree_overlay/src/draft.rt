@@ -1,5 +1,5 @@
 // Drafts of trees.
-ghost use Rattle.std.specs.Prelude.{◌≡◌, ◌+◌, ◌<◌, ◌≤◌, ◌||◌, ℕ, List, [], IsTrue, IfSome, OnOk, OnErr, Some, None, length, take, false, ◌++◌, ◌∷◌};
+ghost use Rattle.std.specs.Prelude.{◌≡◌, ◌+◌, ◌<◌, ◌≤◌, ◌||◌, ℕ, List, [], IsTrue, is_some, IfOk, IfSome, OnOk, OnErr, Some, None, length, take, false, ◌++◌, ◌∷◌};
 ghost use Rattle.std.specs.Option.{option_copied};
 ghost use Rattle.std.specs.Ordering.{is_eq};
 ghost use Rattle.std.specs.FinMap.{get, len, insert, remove};
@@ -13,13 +13,16 @@ ghost use Rattle.khepri_types.specs.Sizes.{bytes, kids, node_bytes};
 ghost use Rattle.khepri_types.specs.Tree.{IsTree, stands};
 ghost use Rattle.khepri_types.specs.Views.{seen_of, node_of};
 ghost use Rattle.nested_nodes.specs.Next.{IsNext};
+ghost use Rattle.tree_overlay.specs.Kept.{IsKept};
+ghost use Rattle.tree_overlay.specs.Measures.{HasBytes, HasSiblings, IsNextChild, Measures};
 ghost use Rattle.tree_overlay.specs.Over.{is_touched, HasChild, IsCovered, IsRising, IsShallow, IsTouched};
 
 use crate::brood::{Brood, flip, mark, open};
+use crate::kept::{bytes_of, kid_of, kids_of, left_name, next_name};
 use crate::tree::Tree;
 use khepri_terms::{Name, Path};
 use khepri_types::{Node, NodeView};
-use nested_nodes::{first_here, lesser};
+use nested_nodes::{Nest, first_here, lesser};
 use node_sizes::{grown, node_len, shown};
 use std::alloc::{AllocError, Global};
 use std::collections::BTreeMap;
@@ -36,6 +39,13 @@ fn last_name(path: &Path) -> Option<&Name>
         return None;
     }
     Some(path.name(names - 1))
+}
+
+/// What a look at a node finds out for one who takes it out or changes it: how many bytes it has, and how many children.
+#[derive(Clone, Copy, Drop)]
+pub struct Measure {
+    pub bytes: u64,
+    pub kids: u64,
 }
 
 /// What a tree is to become: the changed nodes alone, over the tree. A path with no node goes. The paths that have an entry are
@@ -153,15 +163,28 @@ impl<'a> Draft<'a> {
         })
     }
 
-    // The bytes of all nodes but the one at the path.
-    fn bytes_beside(&self, path: &Path) -> u64
+    // The bytes of all nodes but the one at the path, which has so many.
+    fn bytes_beside(&self, path: &Path, was: u64) -> u64
         requires stands { IsTrue (stands self.now.tree path.now) }
+        requires was { HasBytes self.now.tree path.now was }
         ensures { (n : Node) → get self.now.tree path.now ≡ Some n → result + node_bytes (path.now, n) ≡ bytes self.now.tree }
     {
+        let _path = path;
+        self.bytes() - was
+    }
+
+    /// What the node at a path measures, in one look; none where no node stands. It takes no memory.
+    pub fn measure(&self, path: &Path) -> Option<Measure>
+        ensures stands { is_some result ≡ stands self.now.tree path.now }
+        ensures measures { IfSome result (λ m. Measures self.now.tree path.now m) }
+    {
         let Some(node) = self.node(path) else {
-            unreachable!()
+            return None;
         };
-        self.bytes() - node_len(path, &node)
+        Some(Measure {
+            bytes: node_len(path, &node),
+            kids: node.kids,
+        })
     }
 
     /// How many children of the path stand. It takes no memory.
@@ -174,18 +197,81 @@ impl<'a> Draft<'a> {
         }
     }
 
+    // The same of a path at which this nested node stands in the tree.
+    fn child_over<'b>(
+        &'b self,
+        nest: Option<&'b Nest>,
+        path: &Path,
+        after: Option<&Name>,
+    ) -> Option<&'b Name>
+        requires kept { IsKept self.now.base path.now (option_copied nest) }
+        ensures { IsNext name_cmp (HasChild self.now.tree path.now) (option_copied after.entry) (option_copied result) }
+    {
+        let _nodes = self.base.nodes();
+        match self.broods.get(path) {
+            None => next_name(nest, after),
+            Some(brood) => lesser(
+                left_name(nest, &brood.names, after),
+                first_here(&brood.names, after),
+            ),
+        }
+    }
+
     /// The least name of a child of the path that comes after the other name: a search in the tree, and one among those that came.
     /// It takes no memory.
     pub fn child_after(&self, path: &Path, after: Option<&Name>) -> Option<&Name>
         ensures { IsNext name_cmp (HasChild self.now.tree path.now) (option_copied after.entry) (option_copied result) }
     {
+        self.child_over(self.base.seek(path), path, after)
+    }
+
+    // How many children of the path stand, where this nested node stands in the tree.
+    fn kids_over(&self, path: &Path, nest: Option<&Nest>) -> u64
+        requires kept { IsKept self.now.base path.now (option_copied nest) }
+        ensures { result ≡ kids self.now.tree path.now }
+    {
+        let _nodes = self.base.nodes();
         match self.broods.get(path) {
-            None => self.base.child_after(path, after),
-            Some(brood) => lesser(
-                self.base.left_after(path, &brood.names, after),
-                first_here(&brood.names, after),
-            ),
+            Some(here) => here.count,
+            None => kids_of(nest),
         }
+    }
+
+    // The bytes of a node that stands, where this nested node stands in the tree.
+    fn bytes_over(&self, path: &Path, nest: Option<&Nest>) -> u64
+        requires stands { IsTrue (stands self.now.tree path.now) }
+        requires kept { IsKept self.now.base path.now (option_copied nest) }
+        ensures { HasBytes self.now.tree path.now result }
+    {
+        let Some(change) = self.changed.get(path) else {
+            let Some(nest) = nest else { unreachable!() };
+            return bytes_of(path, nest.node());
+        };
+        let Some(node) = change else { unreachable!() };
+        bytes_of(path, node)
+    }
+
+    /// The path of the next child of a path, and what the node there measures, in one look: a search in the tree for the path, and
+    /// then what is below it.
+    pub fn next_child(
+        &self,
+        path: &Path,
+        after: Option<&Name>,
+    ) -> Result<Option<(Path, Measure)>, AllocError>
+        ensures { IfOk result (λ o. IsNextChild self.now.tree path.now (option_copied after.entry) o) }
+    {
+        let _nodes = self.base.nodes();
+        let nest = self.base.seek(path);
+        let Some(name) = self.child_over(nest, path, after) else {
+            return Ok(None);
+        };
+        let child = path.child(name)?;
+        let below = kid_of(nest, name);
+        let measure = Measure {
+            bytes: self.bytes_over(&child, below),
+            kids: self.kids_over(&child, below),
+        };
+        Ok(Some((child, measure)))
     }
 
     // The least touched path that comes after the other path.
@@ -218,26 +304,28 @@ impl<'a> Draft<'a> {
         self.next_touched(after)
     }
 
-    /// Another node at a standing path.
-    pub fn rewrite(&mut self, path: &Path, node: Node) -> Result<(), AllocError>
+    /// Another node at a standing path, where one of so many bytes was seen.
+    pub fn rewrite(&mut self, path: &Path, node: Node, was: u64) -> Result<(), AllocError>
         requires stands { IsTrue (stands self.old.tree path.now) }
+        requires was { HasBytes self.old.tree path.now was }
         ensures base { self.new.base ≡ self.old.base }
         ensures tree { OnOk result (self.new.tree ≡ insert self.old.tree path.now node) }
         ensures touched { OnOk result ((q : List NameText) → is_touched self.new.touched q ≡ (is_eq (path_cmp path.now q) || is_touched self.old.touched q)) }
         ensures kept { OnErr result (self.new ≡ self.old) }
     {
-        let bytes = grown(self.bytes_beside(path), path, &node)?;
+        let bytes = grown(self.bytes_beside(path, was), path, &node)?;
         self.changed.insert(path.copy()?, Some(node))?;
         self.bytes = bytes;
         Ok(())
     }
 
-    /// A node at a missing path below a standing one.
-    pub fn make(&mut self, path: &Path, node: Node) -> Result<(), AllocError>
+    /// A node at a missing path below a standing one, which had so many children before.
+    pub fn make(&mut self, path: &Path, node: Node, before: u64) -> Result<(), AllocError>
         requires short { length path.now ≤ MAX_PATH_NAMES }
         requires below { 0 < length path.now }
         requires parent { (i : ℕ) → i < length path.now → IsTrue (stands self.old.tree (take i path.now)) }
         requires absent { get self.old.tree path.now ≡ None }
+        requires before { HasSiblings self.old.tree path.now before }
         ensures base { self.new.base ≡ self.old.base }
         ensures tree { OnOk result (self.new.tree ≡ insert self.old.tree path.now node) }
         ensures touched { OnOk result ((q : List NameText) → is_touched self.new.touched q ≡ (is_eq (path_cmp path.now q) || is_touched self.old.touched q)) }
@@ -247,26 +335,27 @@ impl<'a> Draft<'a> {
             unreachable!()
         };
         let above = path.front(path.len() - 1)?;
-        let count = self.kids(&above);
         let bytes = grown(self.bytes, path, &node)?;
         if self.nodes == u64::MAX {
             return Err(AllocError);
         }
         let base = self.base;
-        open(base.alloc, &mut self.broods, &above, count)?;
+        open(base.alloc, &mut self.broods, &above, before)?;
         mark(&mut self.broods, &above, name, false)?;
         self.changed.insert(path.copy()?, Some(node))?;
-        flip(&mut self.broods, &above, name, true, count + 1);
+        flip(&mut self.broods, &above, name, true, before + 1);
         self.nodes += 1;
         self.bytes = bytes;
         Ok(())
     }
 
-    /// Takes out a standing path that has no child.
-    pub fn unmake(&mut self, path: &Path) -> Result<(), AllocError>
+    /// Takes out a standing path that has no child. A node of so many bytes was seen there, and its parent had so many children before.
+    pub fn unmake(&mut self, path: &Path, was: u64, before: u64) -> Result<(), AllocError>
         requires below { 0 < length path.now }
         requires stands { IsTrue (stands self.old.tree path.now) }
         requires alone { (m : NameText) → stands self.old.tree (path.now ++ m ∷ []) ≡ false }
+        requires was { HasBytes self.old.tree path.now was }
+        requires before { HasSiblings self.old.tree path.now before }
         ensures base { self.new.base ≡ self.old.base }
         ensures tree { OnOk result (self.new.tree ≡ remove self.old.tree path.now) }
         ensures touched { OnOk result ((q : List NameText) → is_touched self.new.touched q ≡ (is_eq (path_cmp path.now q) || is_touched self.old.touched q)) }
@@ -276,13 +365,12 @@ impl<'a> Draft<'a> {
             unreachable!()
         };
         let above = path.front(path.len() - 1)?;
-        let count = self.kids(&above);
-        let bytes = self.bytes_beside(path);
+        let bytes = self.bytes_beside(path, was);
         let base = self.base;
-        open(base.alloc, &mut self.broods, &above, count)?;
+        open(base.alloc, &mut self.broods, &above, before)?;
         mark(&mut self.broods, &above, name, true)?;
         self.changed.insert(path.copy()?, None)?;
-        flip(&mut self.broods, &above, name, false, count - 1);
+        flip(&mut self.broods, &above, name, false, before - 1);
         self.nodes -= 1;
         self.bytes = bytes;
         Ok(())

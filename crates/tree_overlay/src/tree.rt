@@ -1,5 +1,5 @@
 // The tree.
-ghost use Rattle.std.specs.Prelude.{◌≡◌, ◌≤◌, OnOk, IsTrue, [], Some, IfSome, length, not, ◌&&◌, ◌++◌, ◌∷◌};
+ghost use Rattle.std.specs.Prelude.{◌≡◌, ◌≤◌, OnOk, IsTrue, [], Some, IfSome, length};
 ghost use Rattle.std.specs.Option.{option_copied};
 ghost use Rattle.std.specs.FinMap.{from_sorted, get, len};
 ghost use Rattle.khepri_terms.specs.Lengths.{capped};
@@ -7,11 +7,11 @@ ghost use Rattle.khepri_terms.specs.Order.{name_cmp, path_cmp};
 ghost use Rattle.khepri_types.specs.declared.limits.TheConstants.{MAX_WATCHES};
 ghost use Rattle.khepri_types.specs.Conditions.{seen_at};
 ghost use Rattle.khepri_types.specs.Sizes.{bytes, kids};
-ghost use Rattle.khepri_types.specs.Tree.{IsTree, opening_tree, stands};
+ghost use Rattle.khepri_types.specs.Tree.{IsTree, opening_tree};
 ghost use Rattle.khepri_types.specs.Views.{seen_of, node_of};
-ghost use Rattle.nested_nodes.specs.Marks.{is_gone};
 ghost use Rattle.nested_nodes.specs.Nests.{IsNest};
 ghost use Rattle.nested_nodes.specs.Next.{IsNext};
+ghost use Rattle.tree_overlay.specs.Kept.{IsKept};
 ghost use Rattle.tree_overlay.specs.Over.{HasChild, IsShallow};
 
 use crate::apply::{apply, empty};
@@ -21,7 +21,6 @@ use khepri_types::NodeView;
 use nested_nodes::Nest;
 use node_sizes::shown;
 use std::alloc::{AllocError, Global};
-use std::collections::BTreeMap;
 use std::marker::Model;
 
 // The bytes of a root with no payload, which is spelled `-`.
@@ -118,6 +117,16 @@ impl Tree {
         Some(shown(Some(name), nest.node(), nest.kids()))
     }
 
+    // The node at a path with all below it: a search for each name.
+    pub(crate) fn seek(&self, path: &Path) -> Option<&Nest>
+        ensures { IsKept self.now path.now (option_copied result) }
+    {
+        match self.root.seek(path.names()) {
+            None => None,
+            Some(nest) => Some(nest),
+        }
+    }
+
     /// The least name of a child of the path that comes after the other name; the least of all after none.
     pub fn child_after(&self, path: &Path, after: Option<&Name>) -> Option<&Name>
         ensures { IsNext name_cmp (HasChild self.now path.now) (option_copied after.entry) (option_copied result) }
@@ -138,21 +147,6 @@ impl Tree {
         match self.root.seek(path.names()) {
             None => 0,
             Some(nest) => nest.kids(),
-        }
-    }
-
-    /// The least name of a child that comes after the other name and is not marked as gone.
-    pub(crate) fn left_after(
-        &self,
-        path: &Path,
-        marks: &BTreeMap<Name, bool>,
-        after: Option<&Name>,
-    ) -> Option<&Name>
-        ensures { IsNext name_cmp (λ n. IsTrue (stands self.now (path.now ++ n ∷ []) && not (is_gone marks.now.entries n))) (option_copied after.entry) (option_copied result) }
-    {
-        match self.root.seek(path.names()) {
-            None => None,
-            Some(nest) => nest.next_left(marks, after),
         }
     }
 

@@ -1,5 +1,5 @@
 -- The way to a missing path, made node by node.
-use Rattle.std.proofs.Common.{◌≡◌, inl, inr, ℕ, suc, ◌+◌, ◌<◌, ◌≤◌, Bool, true, false, List, [], ◌∷◌, length, take, refl, sym, ap, subst, arith, ◌∙◌, Option, Some, None}
+use Rattle.std.proofs.Common.{◌≡◌, inl, inr, ℕ, suc, ◌+◌, ◌-◌, ◌<◌, ◌≤◌, cond, Bool, true, false, List, [], ◌∷◌, length, take, refl, sym, ap, subst, arith, ◌∙◌, Option, Some, None}
 use Rattle.std.specs.Prelude.{IsTrue, is_some}
 use Rattle.std.specs.FinMap.{get, insert}
 use Rattle.std.proofs.lemmas.List.{take_all, take-take, length-take-le}
@@ -8,9 +8,15 @@ use Rattle.khepri_types.specs.declared.node.Node.{Node}
 use Rattle.khepri_types.specs.declared.node.Payload.{Payload}
 use Rattle.khepri_types.specs.declared.node.Payload.TheVariants.{Empty}
 use Rattle.khepri_types.specs.Exec.{pv_of}
+use Rattle.khepri_types.specs.Paths.{is_child}
+use Rattle.khepri_types.specs.Sizes.{kids}
 use Rattle.khepri_types.specs.Tree.{Tree, IsTree, stands, fresh, raised_children, way_node, end_node, set_from, set}
 use Rattle.khepri_types.proofs.Trees.{get-inserted, get-other, front-length, set_from-end, set_from-more, set-at_path}
+use Rattle.khepri_types.proofs.Fronts.{child_long}
 use Rattle.khepri_types.proofs.Growing.{Missing, get_none, passed-missing, missing-passed, set_from-skip}
+use Rattle.tree_overlay.specs.Measures.{HasSiblings}
+use Rattle.tree_overlay.proofs.Counting.{kids-new}
+use Rattle.tree_overlay.proofs.Hatching.{missing_kids}
 
 -- a missing front has no longer one that stands
 pub missing_on : (T : Tree) (p : List NameText) (i : ℕ) → IsTree T → get T (take i p) ≡ None → Missing T p i
@@ -101,3 +107,28 @@ grown_tree T U V p q x y k n m tree e is here none told same made =
 -- a node that is made has version 1
 pub version_made : (T U : Tree) (p : List NameText) (x : Payload) → get T p ≡ None → U ≡ set T p x → 1 ≡ pv_of (get U p)
 version_made T U p x none built = sym (ap (λ (V : Tree). pv_of (get V p)) built ∙ (ap pv_of (set-at_path T p x) ∙ ap (λ (o : Option Node). pv_of (Some (end_node o x))) none))
+
+-- ---- how many children the last one on the way has
+
+-- the node on the way under which the next one is made
+pub front_siblings : (T : Tree) (p q : List NameText) (k before : ℕ) → k < length p → q ≡ take (k + 1) p → before ≡ kids T (take k p) → HasSiblings T q before
+front_siblings T p q k before lt is count =
+    let long : length q ≡ k + 1 = front_size p q k lt is in
+    let same : take (length q - 1) q ≡ take k p = (λ i. take (length q - 1) (is i)) ∙ (ap (λ (j : ℕ). take j (take (k + 1) p)) {x = length q - 1} {y = k} (omega (arith, long)) ∙ take-take k (k + 1) p (omega arith)) in
+    count ∙ ap (kids T) (sym same)
+
+-- no path is its own child
+pub no_own_child : (q : List NameText) → is_child q q ≡ false
+no_own_child q = elim (is_child q q) as (λ b. is_child q q ≡ b → b ≡ false) [
+  | true ↦ λ t. absurd (omega (arith, child_long q q t))
+  | false ↦ λ t. refl
+] refl
+
+-- a node that was made has no child
+pub made_kids : (T U : Tree) (p q : List NameText) (v : Node) (k : ℕ) → IsTree T → get T q ≡ None → U ≡ insert T q v → q ≡ take (k + 1) p → 0 ≡ kids U (take (k + 1) p)
+made_kids T U p q v k tree none made is =
+    let off : is_child q q ≡ false = no_own_child q in
+    let flag : cond (is_child q q) 1 0 ≡ 0 = ap {B = ℕ} (λ (b : Bool). cond b 1 0) off in
+    let here : kids U q ≡ kids (insert T q v) q = ap (λ (V : Tree). kids V q) made in
+    let there : kids U q ≡ kids U (take (k + 1) p) = ap (kids U) is in
+    omega (arith, here, there, kids-new T q v q none, flag, missing_kids T q tree none)

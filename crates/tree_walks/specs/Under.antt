@@ -1,6 +1,5 @@
 -- The nodes under a path.
-use Rattle.std.specs.Prelude.{◌≡◌, ℕ, ◌<◌, List, length, take, IsTrue}
-use Rattle.std.proofs.Common.{◌⊎◌}
+use Rattle.std.specs.Prelude.{List, IsTrue}
 use Rattle.khepri_terms.specs.Terms.{NameText}
 use Rattle.khepri_types.specs.Paths.{is_front}
 use Rattle.khepri_types.specs.Tree.{Tree, stands}
@@ -8,7 +7,3 @@ use Rattle.khepri_types.specs.Tree.{Tree, stands}
 -- q stands, and is p or below it
 abbrev pub IsUnder : Tree → List NameText → List NameText → Type 0
 IsUnder T p q = IsTrue (stands T q) × IsTrue (is_front p q)
-
--- p is a shorter front of a, or a is the root of the walk
-abbrev pub IsAbove : List NameText → List NameText → List NameText → Type 0
-IsAbove root a p = (root ≡ a) ⊎ ((i : ℕ) × (i < length a) × (p ≡ take i a))

@@ -3,15 +3,15 @@ ghost use Rattle.std.specs.Prelude.{◌≡◌, ◌<◌, ◌≤◌, ◌+◌, ◌-
 ghost use Rattle.std.specs.FinMap.{get};
 ghost use Rattle.khepri_types.specs.declared.limits.TheConstants.{MAX_PATH_NAMES};
 ghost use Rattle.khepri_types.specs.Exec.{pv_of};
+ghost use Rattle.khepri_types.specs.Sizes.{kids};
 ghost use Rattle.khepri_types.specs.Tree.{set, set_from, stands};
 ghost use Rattle.tree_overlay.specs.Over.{StaysTouched, Touches};
 ghost use Rattle.tree_walks.specs.Notes.{NotesWay};
 
 use crate::raises::raise;
-use crate::write::write;
 use khepri_terms::Path;
 use khepri_types::Payload;
-use node_sizes::fresh_node;
+use node_sizes::{fresh_node, node_len, written_node};
 use std::alloc::AllocError;
 use tree_overlay::Draft;
 
@@ -34,12 +34,19 @@ fn standing_front(draft: &Draft, path: &Path) -> Result<usize, AllocError>
     Ok(above)
 }
 
-// Makes the nodes that are missing on the way to a path from a standing front on, and the path itself.
-fn build(draft: &mut Draft, path: &Path, above: usize, payload: Payload) -> Result<(), AllocError>
+// Makes the nodes that are missing on the way to a path from a standing front on, and the path itself. The front has so many children.
+fn build(
+    draft: &mut Draft,
+    path: &Path,
+    above: usize,
+    payload: Payload,
+    before: u64,
+) -> Result<(), AllocError>
     requires within { above < length path.now }
     requires short { length path.now ≤ MAX_PATH_NAMES }
     requires stands { IsTrue (stands draft.old.tree (take above path.now)) }
     requires missing { get draft.old.tree (take (above + 1) path.now) ≡ None }
+    requires before { before ≡ kids draft.old.tree (take above path.now) }
     ensures base { draft.new.base ≡ draft.old.base }
     ensures tree { OnOk result (draft.new.tree ≡ set_from (length path.now - 1 - above) (above + 1) draft.old.tree path.now payload) }
     ensures noted { OnOk result (NotesWay path.now above (length path.now) draft.old.touched draft.new.touched) }
@@ -48,13 +55,15 @@ fn build(draft: &mut Draft, path: &Path, above: usize, payload: Payload) -> Resu
     let alloc = draft.alloc();
     let _nodes = draft.nodes();
     let last = path.len() - 1;
+    let mut siblings = before;
     'way: for len in above..last {
         let _nodes = draft.nodes();
         let front = path.front(len + 1)?;
-        draft.make(&front, fresh_node(alloc, Payload::Empty))?;
+        draft.make(&front, fresh_node(alloc, Payload::Empty), siblings)?;
+        siblings = 0;
     }
     let _nodes = draft.nodes();
-    draft.make(path, fresh_node(alloc, payload))?;
+    draft.make(path, fresh_node(alloc, payload), siblings)?;
     Ok(())
 }
 
@@ -72,8 +81,8 @@ fn grow(draft: &mut Draft, path: &Path, payload: &Payload) -> Result<u64, AllocE
     let above = standing_front(draft, path)?;
     let parent = path.front(above)?;
     let payload = payload.copy()?;
-    raise(draft, &parent)?;
-    build(draft, path, above, payload)?;
+    let before = raise(draft, &parent)?;
+    build(draft, path, above, payload, before)?;
     Ok(1)
 }
 
@@ -86,8 +95,17 @@ pub fn set(draft: &mut Draft, path: &Path, payload: &Payload) -> Result<u64, All
     ensures touches { OnOk result (Touches draft.old.tree draft.new.tree draft.old.touched draft.new.touched) }
     ensures stays { StaysTouched draft.old.touched draft.new.touched }
 {
-    if draft.stands(path) {
-        return write(draft, path, payload);
+    let alloc = draft.alloc();
+    let _nodes = draft.nodes();
+    let Some(node) = draft.node(path) else {
+        return grow(draft, path, payload);
+    };
+    if payload.is_same(node.payload) {
+        return Ok(node.pv);
     }
-    grow(draft, path, payload)
+    let was = node_len(path, &node);
+    let written = written_node(alloc, &node, payload)?;
+    let version = written.pv;
+    draft.rewrite(path, written, was)?;
+    Ok(version)
 }

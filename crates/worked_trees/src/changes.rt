@@ -315,7 +315,7 @@ fn watch<L: Ledger>(
     let Some(watches) = Watches::from_vec(vec![in alloc; watch]?) else {
         return Ok(false);
     };
-    draft.set_watches(path, &watches)?;
+    draft.set_watches(path, &watches, steps)?;
     Ok(true)
 }
 

@@ -43,7 +43,7 @@ fn plain_put<L: Ledger>(
     if draft.node(path, steps).is_none() {
         return Ok(None);
     }
-    draft.set_watches(path, watches)?;
+    draft.set_watches(path, watches, steps)?;
     if first_unmet(&draft, path, steps).is_some() {
         return Ok(None);
     }

@@ -2,7 +2,7 @@ use Rattle.std.proofs.Common.{◌≡◌, ℕ, ◌+◌, ◌-◌, length, refl, sy
 use Rattle.std.proofs.lemmas.List.{take_all}
 use Rattle.khepri_types.specs.Tree.{fresh, set_from}
 use Rattle.tree_walks.specs.Notes.{NotesWay}
-use Rattle.tree_walks.proofs.Ways.{way-begin, way-step, way-done, way-last, way-next, parents_stand, front_size}
+use Rattle.tree_walks.proofs.Ways.{way-begin, way-step, way-done, way-last, way-next, parents_stand, front_size, front_siblings, made_kids}
 use Rattle.tree_walks.proofs.Sweeping.{same-stays}
 use Rattle.tree_walks.proofs.Touching.{way-none, way-on}
 use Rattle.tree_walks.proofs.grow.build.Goals as goal
@@ -13,6 +13,7 @@ way-init c = record {
   way = way-begin c.args.draft.now.tree c.args.path.now c.args.payload c.args.above (c.len-last.result - 1 - c.args.above) c.nodes-nodes.ensures.tree c.requires.stands c.requires.missing;
   same = refl;
   from = omega arith;
+  siblings = c.requires.before;
   noted = way-none c.args.path.now c.args.above c.args.draft.now.touched;
 }
 
@@ -36,6 +37,8 @@ way-preserved c = record {
       (omega (arith, c.way-test.true)) (omega (arith, c.way-test.true, c.len-last.ensures)) c.in_ok-front.ensures c.fresh_node.ensures c.in_ok-make.ensures.tree;
   same = c.way.invariant.same;
   from = omega (arith, c.way.invariant.from);
+  siblings = made_kids c.way.draft.tree c.make.new.self.tree c.args.path.now c.in_ok-front.front c.fresh_node.result c.way.len c.nodes-nodes-in-way.ensures.tree
+      (way-next c.way.draft.tree c.args.path.now c.in_ok-front.front c.args.payload c.way.len _ _ c.way.invariant.way (omega (arith, c.way-test.true, c.len-last.ensures)) c.in_ok-front.ensures) c.in_ok-make.ensures.tree c.in_ok-front.ensures;
   noted = way-on c.args.path.now c.in_ok-front.front c.args.above c.way.len c.args.draft.now.touched c.way.draft.touched c.make.new.self.touched c.way.invariant.from c.way.invariant.noted c.in_ok-front.ensures c.in_ok-make.ensures.touched;
 }
 
@@ -76,3 +79,12 @@ returns-in_err-make-clause-stays c = same-stays c.args.draft.now.touched c.way.d
 
 pub returns-in_err-make-2-clause-stays : goal.returns-in_err-make-2-clause-stays
 returns-in_err-make-2-clause-stays c = same-stays c.args.draft.now.touched c.way.draft c.make-2.new.self c.way.invariant.noted.stays c.in_err-make-2.ensures.kept
+
+pub make-requires-clause-before : goal.make-requires-clause-before
+make-requires-clause-before c = front_siblings c.way.draft.tree c.args.path.now c.in_ok-front.front c.way.len c.way.siblings (omega (arith, c.way-test.true, c.len-last.ensures)) c.in_ok-front.ensures c.way.invariant.siblings
+
+pub make-requires-2-clause-before : goal.make-requires-2-clause-before
+make-requires-2-clause-before c =
+    let p = c.args.path.now in
+    let end : c.way.len + 1 ≡ length p = omega (arith, c.way-test.false, c.way.auto.len-end, c.len-last.ensures, c.requires.within) in
+    front_siblings c.way.draft.tree p p c.way.len c.way.siblings (omega (arith, end)) (sym (take_all (c.way.len + 1) p (omega (arith, end)))) c.way.invariant.siblings

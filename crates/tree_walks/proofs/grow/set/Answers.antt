@@ -1,14 +1,20 @@
 use Rattle.std.proofs.Common.{sym, ap, ◌∙◌, Option}
+use Rattle.khepri_terms.specs.Lengths.{capped}
 use Rattle.khepri_types.specs.declared.node.Node.{Node}
 use Rattle.khepri_types.specs.Exec.{pv_of}
+use Rattle.khepri_types.specs.Sizes.{node_bytes}
 use Rattle.khepri_types.specs.Views.{node_of}
-use Rattle.tree_overlay.proofs.Seeing.{stands_seen}
+use Rattle.tree_overlay.proofs.Seeing.{unseen}
+use Rattle.tree_walks.proofs.Raising.{some_same}
 use Rattle.tree_walks.proofs.Sweeping.{same-stays}
 use Rattle.tree_walks.proofs.Touching.{set-same, touches-same, set-written, version-written, touches-written, touched-stays}
-use Rattle.tree_walks.proofs.write.write.Goals as goal
+use Rattle.tree_walks.proofs.grow.set.Goals as goal
 
-pub unreachable-requires : goal.unreachable-requires
-unreachable-requires c = stands_seen c.args.draft.now.tree c.args.path.now c.requires.stands c.in_default.ensures.node
+pub grow-requires-clause-absent : goal.grow-requires-clause-absent
+grow-requires-clause-absent c = unseen c.args.draft.now.tree c.args.path.now c.in_default.ensures.node
+
+pub rewrite-requires-clause-was : goal.rewrite-requires-clause-was
+rewrite-requires-clause-was c = λ n at. c.node_len-was.ensures ∙ ap (λ (m : Node). capped (node_bytes (c.args.path.now, m))) (some_same (sym c.in-Some.ensures.watches ∙ at))
 
 pub returns-then-is_same-clause-tree : goal.returns-then-is_same-clause-tree
 returns-then-is_same-clause-tree c =
