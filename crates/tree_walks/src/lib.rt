@@ -14,5 +14,5 @@ mod write;
 pub use descent::Walk;
 pub use drops::drop_all;
 pub use grow::set;
-pub use walk::path_after;
+pub use walk::{next_under, path_after};
 pub use write::set_watches;

@@ -11,9 +11,9 @@ use khepri_terms::Path;
 use std::alloc::AllocError;
 use tree_overlay::Draft;
 
-// The least path of a node under the root that comes after this one: its first child, or the next child of the nearest path above
-// that has one.
-fn next_path(draft: &Draft, root: &Path, at: &Path) -> Result<Option<Path>, AllocError>
+/// The least path of a node under the root that comes after this one: its first child, or the next child of the nearest path above
+/// that has one. It costs a search for the path, and one for each name by which it climbs, and it climbs no higher than the root.
+pub fn next_under(draft: &Draft, root: &Path, at: &Path) -> Result<Option<Path>, AllocError>
     requires under { IsTrue (is_front root.now at.now) }
     ensures { IfOk result (λ o. IsNext path_cmp (IsUnder draft.now.tree root.now) (Some at.now) o) }
 {
@@ -42,6 +42,6 @@ pub fn path_after(draft: &Draft, after: Option<&Path>) -> Result<Option<Path>, A
     let Some(at) = after else {
         return Ok(Some(root));
     };
-    let next = next_path(draft, &root, at)?;
+    let next = next_under(draft, &root, at)?;
     Ok(next)
 }

@@ -15,8 +15,8 @@ returns-in_default c =
     subst (λ (r : List NameText). IsNext path_cmp (λ q. IsTrue (stands c.args.draft.now.tree q)) (option_copied c.args.after) (Some r)) (sym c.root-root.ensures)
     (rw c.in_default.is (root_next c.args.draft.now.tree c.nodes-nodes.ensures.tree))
 
-pub next_path-requires : goal.next_path-requires
-next_path-requires c = record { under = ap (λ (r : List NameText). is_front r c.in-Some.at.now) c.root-root.ensures ∙ front_joined [] c.in-Some.at.now }
+pub next_under-requires : goal.next_under-requires
+next_under-requires c = record { under = ap (λ (r : List NameText). is_front r c.in-Some.at.now) c.root-root.ensures ∙ front_joined [] c.in-Some.at.now }
 
 pub returns : goal.returns
 returns c =
