@@ -9,6 +9,7 @@ use Rattle.khepri_types.specs.Paths.{is_child, is_front}
 use Rattle.khepri_types.specs.Tree.{Tree, IsTree, stands}
 pub use Rattle.nested_nodes.specs.Next.{follows, IsNext}
 pub use Rattle.tree_overlay.specs.Over.{HasChild}
+pub use Rattle.tree_walks.specs.Under.{IsUnder}
 pub use Rattle.tree_walks.specs.Walks.{Walked, path_or_root, GoesOn, Ends}
 
 -- the nodes that come after this path, and all of them after none

@@ -1,13 +1,15 @@
 // The nodes in order of path, one after another.
-ghost use Rattle.std.specs.Prelude.{◌≡◌, ◌+◌, ◌≤◌, IfOk, IfSome, List, [], Option, Some, None, length};
+ghost use Rattle.std.specs.Prelude.{◌≡◌, ◌+◌, ◌≤◌, IfOk, IfSome, IsTrue, List, [], Option, Some, None, length};
 ghost use Rattle.std.specs.Option.{option_copied};
 ghost use Rattle.std.specs.FinMap.{get, entries};
+ghost use Rattle.khepri_terms.specs.Order.{path_cmp};
 ghost use Rattle.khepri_terms.specs.Terms.{NameText};
 ghost use Rattle.khepri_types.specs.Conditions.{seen_at};
+ghost use Rattle.khepri_types.specs.Paths.{is_front};
 ghost use Rattle.khepri_types.specs.Tree.{Tree as Nodes, IsTree};
 ghost use Rattle.khepri_types.specs.Views.{as_seen, node_of};
 ghost use Rattle.tree_nodes.specs.Drafts.{IsShallow};
-ghost use Rattle.tree_nodes.specs.Next.{ahead, ComesNext, Ends, GoesOn, GoesOnFromParent, IsNextNode, path_or_root};
+ghost use Rattle.tree_nodes.specs.Next.{ahead, ComesNext, Ends, GoesOn, GoesOnFromParent, IsNext, IsNextNode, IsUnder, path_or_root};
 
 use crate::draft::Draft;
 use crate::tree::Tree;
@@ -17,7 +19,7 @@ use std::alloc::{AllocError, Global};
 use std::marker::Model;
 use std::sync::ledger::Ledger;
 use step_count::Steps;
-use tree_walks::path_after;
+use tree_walks::{next_under, path_after};
 
 /// Goes over the nodes of a tree in order of path: one look at each, and no search from the root.
 #[derive(Drop)]
@@ -97,6 +99,22 @@ impl<'a> Draft<'a> {
     {
         steps.tick();
         path_after(&self.nested, after)
+    }
+
+    /// The least path of a node at or below the top that comes after this one, which is at or below it too: one step. It looks at no
+    /// node beside or above the top.
+    pub fn next_under<L: Ledger>(
+        &self,
+        top: &Path,
+        at: &Path,
+        steps: &mut Steps<L>,
+    ) -> Result<Option<Path>, AllocError>
+        requires under { IsTrue (is_front top.now at.now) }
+        ensures next { IfOk result (λ o. IsNext path_cmp (IsUnder self.now.tree top.now) (Some at.now) o) }
+        ensures steps { steps.new ≡ steps.old + 1 }
+    {
+        steps.tick();
+        next_under(&self.nested, top, at)
     }
 }
 
