@@ -73,8 +73,11 @@ none_linked L none =
     ap entries (same_map path_cmp_total path_cmp-same L bare (λ q. ap (λ (M : Links). get M q) none ∙ (get-empty path_cmp q ∙ sym (get-from_sorted path_cmp [] q tt))))
     ∙ entries-from_sorted path_cmp [] tt
 
+pub unlinked : (L : Links) → L ≡ empty → (t p : Path) → IsTrue (is_in (linked_to L t) p) → ⊥
+unlinked L none t p h = cc (sym h ∙ ap (λ (es : List (Path × List Path)). is_in (map (λ (e : Path × List Path). e.0) (filter (λ (e : Path × List Path). is_in e.1 t) es)) p) (none_linked L none))
+
 pub touched-empty : (D : Tree) (touched : List Path) (L : Links) → L ≡ empty → LinksTouched D touched (linked_to L)
-touched-empty D touched L none t p h = absurd (cc (sym h ∙ ap (λ (es : List (Path × List Path)). is_in (map (λ (e : Path × List Path). e.0) (filter (λ (e : Path × List Path). is_in e.1 t) es)) p) (none_linked L none)))
+touched-empty D touched L none t p h = absurd (unlinked L none t p h)
 
 -- ---- what may be left out
 

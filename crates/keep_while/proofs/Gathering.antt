@@ -22,7 +22,7 @@ use Rattle.khepri_types.specs.Tree.{Tree, stands}
 use Rattle.khepri_types.proofs.Fronts.{front_itself, child_taken, child_long}
 use Rattle.khepri_types.proofs.Order.{name_cmp_total, name_cmp-same, path_cmp_total, path_cmp-same}
 use Rattle.khepri_types.proofs.Trees.{tie_is}
-use Rattle.tree_nodes.specs.Next.{IsNext}
+use Rattle.tree_nodes.specs.Next.{IsNext, IsUnder}
 use Rattle.worklist_laws.specs.Candidates.{is_in, IsWithin, fails_at, tested, IsEnough, DropsFailing, SameBelow, aims_node, ListsAll}
 use Rattle.worklist_laws.specs.Changes.{changed_paths, SameBut}
 use Rattle.worklist_laws.proofs.Among.{Path, and_both, from_flat, in_append, in_cons, in_filter, in_filtered, in_here, in_later, in_left, in_right, not_both, or_either, or_left, or_right, passes_filter, test_false, tie, tied, under_from, under_in}
@@ -30,7 +30,7 @@ use Rattle.worklist_laws.proofs.Candidates.{fails-from, culprit, next-enough, li
 use Rattle.worklist_laws.proofs.Changing.{near, seen-but, stands-left}
 use Rattle.worklist_laws.proofs.Indexing.{filter-append}
 use Rattle.khepri_types.proofs.Failing.{steady}
-use Rattle.keep_while.specs.Gathering.{AreOut, Asks, asked, both, GoesUnder, HasAbove, HasBelow, HasNear, LooksAt, without}
+use Rattle.keep_while.specs.Gathering.{AreOut, Asks, asked, both, GoesUnder, HasAbove, HasBelow, HasNear, LooksAt, NoneFails, Passes, without}
 
 -- ---- paths are added
 
@@ -178,16 +178,16 @@ walked-more T top at x old new w next under stays one = record {
   ] refl;
 }
 
-pub walked-ends : (T : Tree) (top at : Path) (paths : List Path) → Walked T top at paths → IsNext path_cmp (Stands T) (Some at) None → HasBelow T top paths
-walked-ends T top at paths w none q h front = w.done q h front (test_false (is_lt (path_cmp at q)) (λ t. none q h t))
+pub walked-ends : (T : Tree) (top at : Path) (paths : List Path) → Walked T top at paths → IsNext path_cmp (IsUnder T top) (Some at) None → HasBelow T top paths
+walked-ends T top at paths w none q h front = w.done q h front (test_false (is_lt (path_cmp at q)) (λ t. none q (h, front) t))
 
-pub walked-out : (T : Tree) (top at x : Path) (paths : List Path) → Walked T top at paths → IsNext path_cmp (Stands T) (Some at) (Some x) → is_front top x ≡ false → HasBelow T top paths
-walked-out T top at x paths w next out q h front = w.done q h front (test_false (is_lt (path_cmp at q)) (λ t.
-    elim (path_cmp x q) as (λ o. path_cmp x q ≡ o → ⊥) [
-      | Less ↦ λ e. not_both (is_front top x) (front_between top at x q w.under front (less_is _ next.1) e) out
-      | Equal ↦ λ e. not_both (is_front top x) (ap (is_front top) (path_cmp-same x q e) ∙ front) out
-      | Greater ↦ λ e. next.2 q h t (path_cmp_total.antisymm q x ∙ ap ordering_reverse e)
-    ] refl))
+-- the next of what is below the top is the next of all
+pub under-next : (T : Tree) (top at x : Path) → is_front top at ≡ true → IsNext path_cmp (IsUnder T top) (Some at) (Some x) → IsNext path_cmp (Stands T) (Some at) (Some x)
+under-next T top at x under next = (next.0.0, next.1, λ q h f less. next.2 q (h, front_between top at q x under next.0.1 (less_is _ f) less) f less)
+
+-- what comes next, told of an answer that was taken apart
+pub came-under : (T : Tree) (top at : Path) (o p : Option Path) → o ≡ p → IsNext path_cmp (IsUnder T top) (Some at) o → IsNext path_cmp (IsUnder T top) (Some at) p
+came-under T top at o p apart next = subst (λ (r : Option Path). IsNext path_cmp (IsUnder T top) (Some at) r) apart next
 
 -- ---- parents
 
@@ -400,6 +400,33 @@ and_first : (a b : Bool) → (a && b) ≡ false → a ≡ true → b ≡ false
 and_first true b h g = h
 and_first false b h g = absurd cc
 
+unmoved : (B D : Tree) (q c : Path) → IsTrue (is_child q c) → moved B D q c ≡ false → stands B c ≡ stands D c
+unmoved B D q c child low = differ-not (stands B c) (stands D c) (and_first (is_child q c) (differ (stands B c) (stands D c)) low child)
+
+-- where something else is seen, a touched path was looked at, or a child of it that came or went
+pub anew-looked : (B D : Tree) (touched : List Path) (P : Path → Type 0) → SameBut touched B D → ((q : Path) → IsTrue (is_in touched q) → (seen_at B q ≡ seen_at D q → ⊥) → P q)
+    → ((q r : Path) → IsTrue (is_in touched q) → IsTrue (is_child r q) → (stands B q ≡ stands D q → ⊥) → (seen_at B r ≡ seen_at D r → ⊥) → P r) → (q : Path) → (seen_at B q ≡ seen_at D q → ⊥) → P q
+anew-looked B D touched P same itself above q anew = elim (is_in touched q) as (λ b. is_in touched q ≡ b → P q) [
+  | true ↦ λ on. itself q on anew
+  | false ↦ λ off. elim (list_any (moved B D q) touched) as (λ b. list_any (moved B D q) touched ≡ b → P q) [
+    | true ↦ λ some. by_child (any_at (moved B D q) touched some)
+    | false ↦ λ none. absurd (anew (seen-but B D touched q same off (λ r on child. unmoved B D q r child (any_none (moved B D q) touched r none on))))
+  ] refl
+] refl
+  where
+    by_child : ((c : Path) × IsTrue (is_in touched c) × (moved B D q c ≡ true)) → P q
+    by_child c =
+        let m = and_true (is_child q c.0) (differ (stands B c.0) (stands D c.0)) c.2 in
+        above c.0 q c.1 m.0 (differ-apart (stands B c.0) (stands D c.0) m.1) anew
+
+-- an untouched node that fails watches a path at which something else is seen
+pub untouched-culprit : (B D : Tree) (of : Path → List Path) (touched : List Path) (p : Path) → IsTrue (stable B) → ListsAll B of → SameBut touched B D → is_in touched p ≡ false → IsTrue (fails_at D p) → (q : Path) × IsTrue (is_in (of q) p) × (seen_at B q ≡ seen_at D q → ⊥)
+untouched-culprit B D of touched p firm lists same off h =
+    let f = fails-from D p h in
+    let stood : get B p ≡ Some f.node = same p off ∙ f.is in
+    let c = culprit B D p f.node (record { old = f.node; stood = stood; watches = refl; met = steady B firm p f.node stood }) f.has in
+    (c.0.target, lists p c.0.target c.1, c.2)
+
 -- where the first round looks at each touched path, it tests enough, and both indexes together list all who watch
 pub looked-enough : (B D : Tree) (of written : Path → List Path) (touched tests changed left gone paths : List Path) → IsTrue (stable B) → ListsAll B of → SameBut touched B D → ((q : Path) → IsTrue (is_in touched q) → LooksAt B D written tests changed q)
     → IsWithin tests paths → AreOut touched D left → AreOut [] D gone → Asks (asked left gone of written) changed paths → IsEnough D paths × ListsAll D (both touched of written)
@@ -407,21 +434,7 @@ looked-enough B D of written touched tests changed left gone paths firm lists sa
   where
     -- where something else is seen, it is noted
     noted : (q : Path) → (seen_at B q ≡ seen_at D q → ⊥) → IsTrue (is_in changed q)
-    noted q anew = elim (is_in touched q) as (λ b. is_in touched q ≡ b → IsTrue (is_in changed q)) [
-      | true ↦ λ on. (looks q on).anew anew
-      | false ↦ λ off. elim (list_any (moved B D q) touched) as (λ b. list_any (moved B D q) touched ≡ b → IsTrue (is_in changed q)) [
-        | true ↦ λ some. by_child q anew (any_at (moved B D q) touched some)
-        | false ↦ λ none. absurd (anew (seen-but B D touched q same off (λ r on child. unmoved q r child (any_none (moved B D q) touched r none on))))
-      ] refl
-    ] refl
-      where
-        by_child : (r : Path) → (seen_at B r ≡ seen_at D r → ⊥) → ((c : Path) × IsTrue (is_in touched c) × (moved B D r c ≡ true)) → IsTrue (is_in changed r)
-        by_child r seen c =
-            let m = and_true (is_child r c.0) (differ (stands B c.0) (stands D c.0)) c.2 in
-            (looks c.0 c.1).above r m.0 (differ-apart (stands B c.0) (stands D c.0) m.1) seen
-
-        unmoved : (r c : Path) → IsTrue (is_child r c) → moved B D r c ≡ false → stands B c ≡ stands D c
-        unmoved r c child low = differ-not (stands B c) (stands D c) (and_first (is_child r c) (differ (stands B c) (stands D c)) low child)
+    noted = anew-looked B D touched (λ q. IsTrue (is_in changed q)) same (λ q on. (looks q on).anew) (λ q r on. (looks q on).above r)
 
     untouched : (q p : Path) → is_in touched p ≡ false → IsTrue (is_in (of q) p) → IsTrue (is_in (both touched of written q) p)
     untouched q p off h = in_left (without touched (of q)) (written q) p (in_filter (λ r. not (is_in touched r)) (of q) p (ap not off) h)
@@ -430,10 +443,8 @@ looked-enough B D of written touched tests changed left gone paths firm lists sa
     enough p h = elim (is_in touched p) as (λ b. is_in touched p ≡ b → IsTrue (is_in paths p)) [
       | true ↦ λ on. stays p (looks p on).itself
       | false ↦ λ off.
-          let f = fails-from D p h in
-          let stood : get B p ≡ Some f.node = same p off ∙ f.is in
-          let c = culprit B D p f.node (record { old = f.node; stood = stood; watches = refl; met = steady B firm p f.node stood }) f.has in
-          asks c.0.target (noted c.0.target c.2) p (asked-on touched left gone D of written c.0.target p out away (ap is_some f.is) (untouched c.0.target p off (lists p c.0.target c.1)))
+          let c = untouched-culprit B D of touched p firm lists same off h in
+          asks c.0 (noted c.0 c.2) p (asked-on touched left gone D of written c.0 p out away (fails-stands D p h) (untouched c.0 p off c.1))
     ] refl
 
     all : ListsAll D (both touched of written)
@@ -441,3 +452,16 @@ looked-enough B D of written touched tests changed left gone paths firm lists sa
       | true ↦ λ on. in_right (without touched (of q)) (written q) p ((looks p on).linked q h)
       | false ↦ λ off. untouched q p off (lists p q (ap (λ (o : Option Node). aims_node o q) (same p off) ∙ h))
     ] refl
+
+-- where each touched path passes, and no node fails that watches a path above them, no node fails
+pub passed-enough : (B D : Tree) (of : Path → List Path) (touched above : List Path) → IsTrue (stable B) → ListsAll B of → SameBut touched B D → ((q : Path) → IsTrue (is_in touched q) → Passes B D of above q)
+    → ((q : Path) → IsTrue (is_in above q) → NoneFails D (of q)) → IsEnough D []
+passed-enough B D of touched above firm lists same passes up p h = absurd (elim (is_in touched p) as (λ b. is_in touched p ≡ b → ⊥) [
+  | true ↦ λ on. not_both (fails_at D p) h (passes p on).itself
+  | false ↦ λ off.
+      let c = untouched-culprit B D of touched p firm lists same off h in
+      not_both (fails_at D p) h (anew-looked B D touched (λ q. NoneFails D (of q)) same (λ q on. (passes q on).anew) (λ q r on child moved anew. elim ((passes q on).above r child moved anew) as (λ _. NoneFails D (of r)) [
+        | inl noted ↦ up r noted
+        | inr fine ↦ fine
+      ]) c.0 c.2 p c.1)
+] refl)

@@ -3,6 +3,7 @@ pub mod Counting
 pub mod Failures
 pub mod Firsts
 pub mod Gathering
+pub mod Glancing
 pub mod Looking
 pub mod Noting
 pub mod Paying

@@ -126,7 +126,7 @@ pub follows_on : (after : Option Path) (x y : Path) → IsTrue (follows path_cmp
 follows_on None x y f g = refl
 follows_on (Some a) x y f g = ap is_lt (path_cmp_total.trans a x y (less_is (path_cmp a x) f) (less_is (path_cmp x y) g))
 
-not_after : (x : Path) → follows path_cmp (Some x) x ≡ false
+pub not_after : (x : Path) → follows path_cmp (Some x) x ≡ false
 not_after x = ap is_lt (tied_itself path_cmp_total x)
 
 pub same_path : (x y : Path) → (path_cmp x y ≡ Less → ⊥) → (path_cmp y x ≡ Less → ⊥) → x ≡ y

@@ -132,14 +132,6 @@ walks-gone T tops rising apart all =
     twice true = refl
     twice false = refl
 
-pub paid-first : (d : Drafted) (candidates : List Path) (old now : ℕ) → IsFirst d candidates → now ≤ old + 8 * length d.touched + 1 → IsPaidSoFar d d.tree candidates old now
-paid-first d candidates old now f cost = record {
-  changed = f.changed;
-  anew = f.anew;
-  rising = f.rising;
-  paid = omega (arith, f.count, cost);
-}
-
 -- what a round tested, changed and dropped
 pub record Round (T U : Tree) (tops candidates next : List Path) (start tested walked dropped : ℕ) : Type 0 where
   pub rising : IsStrictlySortedBy path_cmp tops

@@ -83,18 +83,30 @@ pub record IsFirst (d : Drafted) (candidates : List (List NameText)) : Type 0 wh
   pub rising : IsStrictlySortedBy path_cmp changed
   pub count : length candidates ≤ length d.touched + watching d.base changed
 
--- to settle this draft took the steps from the old number to the new one: at most 26 for each touched path, for each pair of a round and a
+-- a look over what this draft changed took the steps from the old number to the new one: at most 24 for each touched path, and k for each
+-- watcher, in the tree under the draft, of a path at which something else is seen now
+pub record IsGlance (d : Drafted) (k old new : ℕ) : Type 0 where
+  pub changed : List (List NameText)
+  pub anew : AreAnew d.base d.tree changed
+  pub rising : IsStrictlySortedBy path_cmp changed
+  pub paid : new ≤ old + 24 * length d.touched + k * watching d.base changed + 1
+
+-- a look at q, and at those who watch it where something else is seen there
+abbrev pub IsLook : Drafted → List NameText → ℕ → ℕ → Type 0
+IsLook d q old new = (new ≤ old + 2) ⊎ ((seen_at d.base q ≡ seen_at d.tree q → ⊥) × (new ≤ old + 2 + 17 * length (watchers d.base q)))
+
+-- to settle this draft took the steps from the old number to the new one: at most 52 for each touched path, for each pair of a round and a
 -- node that it changes, for each watcher of such a pair, and for each watcher, in the tree under the draft, of a path at which something
 -- else is seen now
 pub record IsPaidFor (d : Drafted) (old new : ℕ) : Type 0 where
   pub changed : List (List NameText)
   pub anew : AreAnew d.base d.tree changed
   pub rising : IsStrictlySortedBy path_cmp changed
-  pub paid : new ≤ old + 26 * (length d.touched + settling_changes d.tree + (watching d.base changed + settling_watching d.tree) + 1)
+  pub paid : new ≤ old + 52 * (length d.touched + settling_changes d.tree + (watching d.base changed + settling_watching d.tree) + 1)
 
 -- so far it took the steps from the old number to this one, and what the candidates pay for is still to come
 pub record IsPaidSoFar (d : Drafted) (T : Tree) (candidates : List (List NameText)) (old now : ℕ) : Type 0 where
   pub changed : List (List NameText)
   pub anew : AreAnew d.base d.tree changed
   pub rising : IsStrictlySortedBy path_cmp changed
-  pub paid : now + reads_left T candidates ≤ old + 26 * (length d.touched + settling_changes d.tree + (watching d.base changed + settling_watching d.tree) + 1)
+  pub paid : now + reads_left T candidates ≤ old + 52 * (length d.touched + settling_changes d.tree + (watching d.base changed + settling_watching d.tree) + 1)

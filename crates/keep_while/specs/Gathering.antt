@@ -1,5 +1,5 @@
 -- What is gathered for a round of settling.
-use Rattle.std.specs.Prelude.{ℕ, length, Option, Some, None, ◌≡◌, ◌||◌, false, IsTrue, List, ◌++◌, not}
+use Rattle.std.specs.Prelude.{ℕ, length, Option, Some, None, ◌≡◌, ◌⊎◌, ◌||◌, false, IsTrue, List, ◌++◌, not}
 use Rattle.std.specs.List.{filter}
 use Rattle.khepri_terms.specs.Terms.{NameText}
 use Rattle.khepri_types.specs.declared.node.Node.{Node}
@@ -7,8 +7,9 @@ use Rattle.khepri_types.specs.declared.view.NodeView.{NodeView}
 use Rattle.khepri_types.specs.Conditions.{seen_at}
 use Rattle.khepri_types.specs.Paths.{is_child, is_front, is_under}
 use Rattle.khepri_types.specs.Tree.{Tree, stands}
+use Rattle.tree_nodes.specs.Drafts.{Drafted, IsTouched}
 use Rattle.worklist_laws.specs.Changes.{is_near}
-use Rattle.worklist_laws.specs.Candidates.{is_in, IsWithin, watches_at}
+use Rattle.worklist_laws.specs.Candidates.{is_in, IsWithin, fails_at, watches_at}
 
 -- how many watches a node has, none where none stands
 abbrev pub watch_count : Option Node → ℕ
@@ -49,6 +50,32 @@ pub record LooksAt (B D : Tree) (written : List NameText → List (List NameText
   pub anew : (seen_at B q ≡ seen_at D q → ⊥) → IsTrue (is_in changed q)
   pub above : NotesAbove B D q changed
   pub linked : (t : List NameText) → IsTrue (watches_at D q t) → IsTrue (is_in (written t) q)
+
+-- no node fails at these paths
+abbrev pub NoneFails : Tree → List (List NameText) → Type 0
+NoneFails D paths = (p : List NameText) → IsTrue (is_in paths p) → fails_at D p ≡ false
+
+-- where q is seen anew, no node fails that `of` lists there
+abbrev pub NoneFailsAnew : Tree → Tree → (List NameText → List (List NameText)) → List NameText → Type 0
+NoneFailsAnew B D of q = (seen_at B q ≡ seen_at D q → ⊥) → NoneFails D (of q)
+
+-- where r is seen anew, it is above, or no node fails that `of` lists there
+abbrev pub IsNoted : Tree → Tree → (List NameText → List (List NameText)) → List NameText → List (List NameText) → Type 0
+IsNoted B D of r above = (seen_at B r ≡ seen_at D r → ⊥) → IsTrue (is_in above r) ⊎ NoneFails D (of r)
+
+-- the same of the parent of q, where q came or went
+abbrev pub NotesAsked : Tree → Tree → (List NameText → List (List NameText)) → List NameText → List (List NameText) → Type 0
+NotesAsked B D of q above = (r : List NameText) → IsTrue (is_child r q) → (stands B q ≡ stands D q → ⊥) → IsNoted B D of r above
+
+-- where q was touched: it doesn't fail, nor those who watch it where it is seen anew; its parent is among the parents, where those who watch it are to be tested too
+pub record Passes (B D : Tree) (of : List NameText → List (List NameText)) (parents : List (List NameText)) (q : List NameText) : Type 0 where
+  pub itself : fails_at D q ≡ false
+  pub anew : NoneFailsAnew B D of q
+  pub above : NotesAsked B D of q parents
+
+-- each touched path passes
+abbrev pub PassesAll : Drafted → (List NameText → List (List NameText)) → List (List NameText) → Type 0
+PassesAll d of above = (q : List NameText) → IsTouched d.touched q → Passes d.base d.tree of above q
 
 -- what stands below the path, and the path itself, is among these
 abbrev pub HasBelow : Tree → List NameText → List (List NameText) → Type 0

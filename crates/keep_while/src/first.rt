@@ -44,7 +44,7 @@ fn shows_else(old: &NodeView, new: &NodeView) -> bool
 }
 
 // Whether something else is seen at the path than in the tree under the draft.
-fn is_seen_anew<L: Ledger>(draft: &Draft, path: &Path, steps: &mut Steps<L>) -> bool
+pub(crate) fn is_seen_anew<L: Ledger>(draft: &Draft, path: &Path, steps: &mut Steps<L>) -> bool
     ensures same { result ≡ false → seen_at draft.now.base path.now ≡ seen_at draft.now.tree path.now }
     ensures differs { IsTrue result → seen_at draft.now.base path.now ≡ seen_at draft.now.tree path.now → ⊥ }
     ensures steps { steps.new ≡ steps.old + 2 }
@@ -57,7 +57,7 @@ fn is_seen_anew<L: Ledger>(draft: &Draft, path: &Path, steps: &mut Steps<L>) -> 
 }
 
 // Whether the node at the path came or went.
-fn came_or_went<L: Ledger>(draft: &Draft, path: &Path, steps: &mut Steps<L>) -> bool
+pub(crate) fn came_or_went<L: Ledger>(draft: &Draft, path: &Path, steps: &mut Steps<L>) -> bool
     ensures same { result ≡ false → stands draft.now.base path.now ≡ stands draft.now.tree path.now }
     ensures steps { steps.new ≡ steps.old + 2 }
 {

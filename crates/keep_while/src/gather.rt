@@ -29,6 +29,14 @@ pub(crate) struct Out {
     pub(crate) gone: BTreeSet<Path>,
 }
 
+// Adds the path, and makes no copy of it.
+pub(crate) fn put(set: &mut BTreeSet<Path>, path: Path) -> Result<(), AllocError>
+    ensures { OnOk result ((q : List NameText) → is_in set.new.keys q ≡ (is_eq (path_cmp path q) || is_in set.old.keys q)) }
+{
+    set.insert(path)?;
+    Ok(())
+}
+
 // Adds the path.
 fn add(set: &mut BTreeSet<Path>, path: &Path) -> Result<(), AllocError>
     ensures { OnOk result ((q : List NameText) → is_in set.new.keys q ≡ (is_eq (path_cmp path.now q) || is_in set.old.keys q)) }
@@ -113,7 +121,7 @@ pub(crate) fn watching(
 }
 
 // Whether the other path begins with this one.
-pub(crate) fn begins(path: &Path, other: &Path) -> bool
+fn begins(path: &Path, other: &Path) -> bool
     ensures { result ≡ is_front path.now other.now }
 {
     if other.len() < path.len() {
@@ -152,10 +160,7 @@ fn add_below<L: Ledger>(
 {
     note_gone(set, out, top)?;
     let mut at = top.copy()?;
-    'walk: while let Some(path) = draft.path_after(Some(&at), steps)? {
-        if !begins(top, &path) {
-            return Ok(());
-        }
+    'walk: while let Some(path) = draft.next_under(top, &at, steps)? {
         note_gone(set, out, &path)?;
         at = path;
     }

@@ -5,6 +5,7 @@
 
 mod first;
 mod gather;
+mod glance;
 mod unmet;
 mod worklist;
 

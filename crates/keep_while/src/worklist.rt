@@ -8,6 +8,7 @@ ghost use Rattle.keep_while.specs.Gathering.{AreOut, asked, both};
 
 use crate::first::first;
 use crate::gather::{Out, changed_by, failing_tops, watching};
+use crate::glance::some_node_fails;
 use khepri_terms::Path;
 use reverse_watch::Watchers;
 use std::alloc::AllocError;
@@ -51,8 +52,9 @@ fn rounds<L: Ledger>(
 }
 
 /// Settles the draft: as long as some node fails, a round drops all nodes that fail, with all nodes below them. It answers how many
-/// nodes went. No node fails in the tree under the draft, and the index holds the watches of that tree. The first round tests the
-/// touched nodes and those who watch what is seen anew, and each later one those who watch what the round before it changed.
+/// nodes went. No node fails in the tree under the draft, and the index holds the watches of that tree. A look over the touched nodes
+/// and those who watch what is seen anew comes first; where one of these fails, the first round tests them all, and each later round
+/// those who watch what the round before it changed.
 pub fn settle<L: Ledger>(
     draft: &mut Draft,
     watchers: &Watchers,
@@ -66,6 +68,9 @@ pub fn settle<L: Ledger>(
     ensures cost { OnOk result (IsPaidFor draft.old steps.old steps.new) }
     ensures risen { steps.old ≤ steps.new }
 {
+    if !some_node_fails(draft, watchers, steps)? {
+        return Ok(0);
+    }
     let mut written = Watchers::fresh(draft.alloc());
     let mut out = Out {
         left: BTreeSet::new(draft.alloc()),

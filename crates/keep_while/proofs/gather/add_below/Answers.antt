@@ -1,11 +1,11 @@
-use Rattle.std.proofs.Common.{◌∙◌, List, length, Some, None, refl, sym, ap, subst, arith}
+use Rattle.std.proofs.Common.{List, length, Some, None, sym, ap, subst, arith}
 use Rattle.std.specs.List.{filter}
 use Rattle.khepri_terms.specs.Terms.{NameText}
 use Rattle.khepri_types.specs.Paths.{is_front}
 use Rattle.tree_nodes.proofs.Walking.{ahead}
 use Rattle.worklist_laws.proofs.Among.{Entry}
-use Rattle.keep_while.proofs.Failures.{ahead-less, came-next}
-use Rattle.keep_while.proofs.Gathering.{Walked, added-one, added-stays, within-on, walked-begins, walked-ends, walked-more, walked-out, goes-begins, goes-one}
+use Rattle.keep_while.proofs.Failures.{ahead-less}
+use Rattle.keep_while.proofs.Gathering.{Walked, added-one, added-stays, came-under, within-on, under-next, walked-begins, walked-ends, walked-more, goes-begins, goes-one}
 use Rattle.keep_while.proofs.Noting.{below-begins, below-one, cost-more}
 use Rattle.keep_while.proofs.gather.add_below.Goals as goal
 
@@ -36,38 +36,24 @@ pub returns-clause-below : goal.returns-clause-below
 returns-clause-below g c =
     let T = c.args.draft.now.tree in
     let at = c.walk.at in
-    walked-ends T c.args.top.now at c.walk.set.keys c.walk.invariant.walked (came-next T (Some at) (Some at) c.in_ok-path.field-0 None refl c.in_default.is c.in_ok-path.ensures.next)
+    walked-ends T c.args.top.now at c.walk.set.keys c.walk.invariant.walked (came-under T c.args.top.now at c.in_ok-path.field-0 None c.in_default.is c.in_ok-path.ensures.next)
 
 pub returns-clause-out : goal.returns-clause-out
 returns-clause-out g c =
     let T = c.args.draft.now.tree in
     let at = c.walk.at in
-    let none = came-next T (Some at) (Some at) c.in_ok-path.field-0 None refl c.in_default.is c.in_ok-path.ensures.next in
+    let none = came-under T c.args.top.now at c.in_ok-path.field-0 None c.in_default.is c.in_ok-path.ensures.next in
     ((c.walk.invariant.stays_left, walked-ends T c.args.top.now at c.walk.out.left.keys c.walk.invariant.walked_left none), (c.walk.invariant.stays_gone, walked-ends T c.args.top.now at c.walk.out.gone.keys c.walk.invariant.walked_gone none))
 
-pub returns-then-not-begins-clause-below : goal.returns-then-not-begins-clause-below
-returns-then-not-begins-clause-below g c =
-    let T = c.args.draft.now.tree in
-    let at = c.walk.at in
-    let x = c.in-Some.path in
-    let next = came-next T (Some at) (Some at) c.in_ok-path.field-0 (Some x) refl c.in-Some.is c.in_ok-path.ensures.next in
-    walked-out T c.args.top.now at x c.walk.set.keys c.walk.invariant.walked next (sym c.begins.ensures ∙ c.if-not-begins.true)
-
-pub returns-then-not-begins-clause-out : goal.returns-then-not-begins-clause-out
-returns-then-not-begins-clause-out g c =
-    let T = c.args.draft.now.tree in
-    let at = c.walk.at in
-    let x = c.in-Some.path in
-    let next = came-next T (Some at) (Some at) c.in_ok-path.field-0 (Some x) refl c.in-Some.is c.in_ok-path.ensures.next in
-    let apart = sym c.begins.ensures ∙ c.if-not-begins.true in
-    ((c.walk.invariant.stays_left, walked-out T c.args.top.now at x c.walk.out.left.keys c.walk.invariant.walked_left next apart), (c.walk.invariant.stays_gone, walked-out T c.args.top.now at x c.walk.out.gone.keys c.walk.invariant.walked_gone next apart))
+pub next_under-requires : goal.next_under-requires
+next_under-requires g c = record { under = c.walk.invariant.walked.under }
 
 pub walk-smaller : goal.walk-smaller
 walk-smaller g c =
     let T = c.args.draft.now.tree in
     let at = c.walk.at in
     let x = c.in-Some.path in
-    ahead-less T (Some at) x (came-next T (Some at) (Some at) c.in_ok-path.field-0 (Some x) refl c.in-Some.is c.in_ok-path.ensures.next)
+    ahead-less T (Some at) x (under-next T c.args.top.now at x c.walk.invariant.walked.under (came-under T c.args.top.now at c.in_ok-path.field-0 (Some x) c.in-Some.is c.in_ok-path.ensures.next))
 
 pub walk-preserved : goal.walk-preserved
 walk-preserved g c =
@@ -75,10 +61,11 @@ walk-preserved g c =
     let top = c.args.top.now in
     let at = c.walk.at in
     let x = c.in-Some.path in
-    let next = came-next T (Some at) (Some at) c.in_ok-path.field-0 (Some x) refl c.in-Some.is c.in_ok-path.ensures.next in
-    let under = sym c.begins.ensures ∙ c.if-not-begins.false in
-    let noted = c.in_ok-note_gone-2.ensures in
     let was = c.walk.invariant in
+    let came = came-under T top at c.in_ok-path.field-0 (Some x) c.in-Some.is c.in_ok-path.ensures.next in
+    let next = under-next T top at x was.walked.under came in
+    let under = came.0.1 in
+    let noted = c.in_ok-note_gone-2.ensures in
     let set = c.note_gone-in-Some.new.set.keys in
     let left = c.note_gone-in-Some.new.out.left.keys in
     let gone = c.note_gone-in-Some.new.out.gone.keys in
@@ -95,6 +82,6 @@ walk-preserved g c =
       left = goes-one top x c.args.out.now.left.keys c.walk.out.left.keys left under was.left noted.left;
       gone = goes-one top x c.args.out.now.gone.keys c.walk.out.gone.keys gone under was.gone noted.gone;
       only = below-one T top x c.args.set.now.keys c.walk.set.keys set next.0 under was.only noted.adds;
-      cost = omega (arith, was.cost, c.path_after.ensures.steps, cost-more T top at x next under);
-      risen = omega (arith, was.risen, c.path_after.ensures.steps);
+      cost = omega (arith, was.cost, c.next_under.ensures.steps, cost-more T top at x next under);
+      risen = omega (arith, was.risen, c.next_under.ensures.steps);
     }
