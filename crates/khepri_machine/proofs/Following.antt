@@ -1,7 +1,6 @@
 -- How an index follows a tree, path by path.
 use Rattle.std.proofs.Common.{◌≡◌, ℕ, ◌+◌, ◌<◌, ◌∙◌, Bool, true, false, cond, ◌||◌, List, [], ◌∷◌, ◌++◌, get_or, inl, inr, refl, sym, ap, subst, Option, Some, None, take, length, Less, Equal, Greater, arith}
-use Rattle.std.specs.Prelude.{IsTrue}
-use Rattle.std.specs.List.{list_any}
+use Rattle.std.specs.Prelude.{IsTrue, is_some}
 use Rattle.std.specs.Ordering.{is_eq, is_lt, ordering_reverse}
 use Rattle.std.specs.declared.cmp.Ordering.{Ordering}
 use Rattle.std.specs.FinMap.{get, find, get-insert, get-remove, get-empty, get-from_sorted, empty}
@@ -17,10 +16,10 @@ use Rattle.khepri_types.proofs.Order.{path_cmp_total, path_cmp-same}
 use Rattle.khepri_types.proofs.Rounds.{settle-ends}
 use Rattle.tree_nodes.specs.Drafts.{Drafted, IsTouched, IsCovered}
 use Rattle.tree_nodes.specs.Next.{IsNext, follows}
-use Rattle.worklist_laws.specs.Candidates.{is_in}
+use Rattle.worklist_laws.specs.Candidates.{is_in, IsWithin}
 use Rattle.worklist_laws.specs.Links.{Links, linked, targets, unlinked, targets_at, targets_of, HoldsWatches}
-use Rattle.worklist_laws.proofs.Among.{or_either, or_left, or_right, not_both, test_false, tie, tied, in_append, in_cons, in_left, in_right}
-use Rattle.khepri_machine.specs.Following.{Follows, Noted}
+use Rattle.worklist_laws.proofs.Among.{or_either, or_left, or_right, not_both, test_false, tie, tied, in_left, in_right}
+use Rattle.khepri_machine.specs.Following.{Follows, KeepsTargets, KeepsTargetsAt, Noted}
 
 abbrev Path : Type 0
 Path = List NameText
@@ -86,11 +85,11 @@ follows-more T paths i x old now new lt is was here others =
           others q apart ∙ was.off q earlier;
     }
 
--- an index that followed at all paths where the trees differ holds the watches
-pub followed : (B D : Tree) (paths : List Path) (old new : Links) → HoldsWatches B old → IsCovered B D paths → Follows D paths old new → HoldsWatches D new
-followed B D paths old new holds covered f p = elim (is_in paths p) as (λ b. is_in paths p ≡ b → targets_at (get new p) ≡ targets_of (get D p)) [
+-- an index that followed at all paths where nodes watch something else holds the watches
+pub followed : (B D : Tree) (paths : List Path) (old new : Links) → HoldsWatches B old → KeepsTargets B D paths → Follows D paths old new → HoldsWatches D new
+followed B D paths old new holds keeps f p = elim (is_in paths p) as (λ b. is_in paths p ≡ b → targets_at (get new p) ≡ targets_of (get D p)) [
   | true ↦ λ h. f.on p h
-  | false ↦ λ h. ap targets_at (f.off p h) ∙ (holds p ∙ ap targets_of (covered p h))
+  | false ↦ λ h. ap targets_at (f.off p h) ∙ (holds p ∙ keeps p h)
 ] refl
 
 -- ---- the first state
@@ -119,30 +118,55 @@ same_path x y nl ng = elim (path_cmp x y) as (λ o. path_cmp x y ≡ o → x ≡
   | Greater ↦ λ e. absurd (ng (path_cmp_total.antisymm y x ∙ ap ordering_reverse e))
 ] refl
 
-pub noted-none : (touched paths : List Path) → Noted touched None paths
-noted-none touched paths q on low = absurd cc
+pub noted-none : (B D : Tree) (touched paths : List Path) → Noted B D touched None paths
+noted-none B D touched paths q on low = absurd cc
 
-pub noted-more : (touched : List Path) (after : Option Path) (x : Path) (old new : List Path) → Noted touched after old → IsNext path_cmp (IsTouched touched) after (Some x) → new ≡ old ++ x ∷ [] → Noted touched (Some x) new
-noted-more touched after x old new was next is q on low = subst (λ (ps : List Path). IsTrue (is_in ps q)) (sym is) (elim (follows path_cmp after q) as (λ b. follows path_cmp after q ≡ b → IsTrue (is_in (old ++ x ∷ []) q)) [
-  | true ↦ λ f. in_right old (x ∷ []) q (or_left (is_eq (path_cmp q x)) false (tie q x (sym (same_path x q (λ less. not_both (follows path_cmp (Some x) q) (ap is_lt less) low) (next.2 q on f)))))
-  | false ↦ λ f. in_left old (x ∷ []) q (was q on f)
-] refl)
+pub noted-more : (B D : Tree) (touched : List Path) (after : Option Path) (x : Path) (old new : List Path) → Noted B D touched after old → IsNext path_cmp (IsTouched touched) after (Some x) → IsWithin old new → KeepsTargetsAt B D new x → Noted B D touched (Some x) new
+noted-more B D touched after x old new was next stays here q on low off = elim (follows path_cmp after q) as (λ b. follows path_cmp after q ≡ b → targets_of (get B q) ≡ targets_of (get D q)) [
+  | true ↦ λ f.
+      let same : x ≡ q = same_path x q (λ less. not_both (follows path_cmp (Some x) q) (ap is_lt less) low) (next.2 q on f) in
+      subst (λ (r : Path). targets_of (get B r) ≡ targets_of (get D r)) same (here (subst (λ (r : Path). is_in new r ≡ false) (sym same) off))
+  | false ↦ λ f. was q on f (test_false (is_in old q) (λ h. not_both (is_in new q) (stays q h) off))
+] refl
 
-pub noted-all : (B D : Tree) (touched : List Path) (after : Option Path) (paths : List Path) → Noted touched after paths → IsNext path_cmp (IsTouched touched) after None → IsCovered B D touched → IsCovered B D paths
-noted-all B D touched after paths was none covered q off =
-    covered q (test_false (is_in touched q) (λ on. not_both (is_in paths q) (was q on (test_false (follows path_cmp after q) (λ t. none q on t))) off))
+-- a path that is noted
+pub pushed-stays : (x : Path) (old new : List Path) → new ≡ old ++ x ∷ [] → IsWithin old new
+pushed-stays x old new is q h = ap (λ (ps : List Path). is_in ps q) is ∙ in_left old (x ∷ []) q h
+
+pub pushed-keeps : (B D : Tree) (x : Path) (old new : List Path) → new ≡ old ++ x ∷ [] → KeepsTargetsAt B D new x
+pushed-keeps B D x old new is off = absurd (not_both (is_in new x) (ap (λ (ps : List Path). is_in ps x) is ∙ in_right old (x ∷ []) x (or_left (is_eq (path_cmp x x)) false (tie x x refl))) off)
+
+pub noted-all : (B D : Tree) (touched : List Path) (after : Option Path) (paths : List Path) → Noted B D touched after paths → IsNext path_cmp (IsTouched touched) after None → IsCovered B D touched → KeepsTargets B D paths
+noted-all B D touched after paths was none covered q off = elim (is_in touched q) as (λ b. is_in touched q ≡ b → targets_of (get B q) ≡ targets_of (get D q)) [
+  | true ↦ λ on. was q on (test_false (follows path_cmp after q) (λ t. none q on t)) off
+  | false ↦ λ away. ap targets_of (covered q away)
+] refl
+
+-- where the index doesn't link a path, the node there watches nothing
+unlinked_none : (B : Tree) (L : Links) (p : Path) → HoldsWatches B L → is_some (get L p) ≡ false → targets_of (get B p) ≡ []
+unlinked_none B L p holds off = sym (holds p) ∙ bare (get L p) off
+  where
+    bare : (o : Option (List Path)) → is_some o ≡ false → targets_at o ≡ []
+    bare None h = refl
+    bare (Some ts) h = absurd cc
+
+pub nothing-stands : (B D : Tree) (L : Links) (p : Path) → HoldsWatches B L → is_some (get L p) ≡ false → get D p ≡ None → targets_of (get B p) ≡ targets_of (get D p)
+nothing-stands B D L p holds off none = unlinked_none B L p holds off ∙ sym (ap targets_of none)
+
+pub nothing-watched : (B D : Tree) (L : Links) (p : Path) (n : Node) → HoldsWatches B L → is_some (get L p) ≡ false → get D p ≡ Some n → length n.watches ≡ 0 → targets_of (get B p) ≡ targets_of (get D p)
+nothing-watched B D L p n holds off some few = unlinked_none B L p holds off ∙ sym (ap targets_of some ∙ no_targets n.watches few)
 
 pub settled-stable : (T U : Tree) → U ≡ settle T → IsTrue (stable U)
 settled-stable T U is = ap stable is ∙ settle-ends T
 
 -- what a settled draft came to is over the tree that it began from
-pub is-over : (D E C : Drafted) (paths : List Path) → E.base ≡ D.base → E.tree ≡ settle D.tree → C.base ≡ E.base → C.tree ≡ E.tree → IsCovered E.base E.tree paths → (D.base ≡ C.base) × IsTrue (stable C.tree) × IsCovered D.base C.tree paths
-is-over D E C paths base tree base' tree' covered = (
+pub is-over : (D E C : Drafted) (paths : List Path) → E.base ≡ D.base → E.tree ≡ settle D.tree → C.base ≡ E.base → C.tree ≡ E.tree → KeepsTargets E.base E.tree paths → (D.base ≡ C.base) × IsTrue (stable C.tree) × KeepsTargets D.base C.tree paths
+is-over D E C paths base tree base' tree' keeps = (
   sym (base' ∙ base),
   settled-stable D.tree C.tree (tree' ∙ tree),
-  subst (λ (T : Tree). IsCovered D.base T paths) (sym tree') (subst (λ (T : Tree). IsCovered T E.tree paths) base covered),
+  subst (λ (T : Tree). KeepsTargets D.base T paths) (sym tree') (subst (λ (T : Tree). KeepsTargets T E.tree paths) base keeps),
 )
 
--- an index that followed the tree at the touched paths holds its watches
-pub followed-over : (B D : Tree) (paths : List Path) (T U : Tree) (old new : Links) → B ≡ T → D ≡ U → HoldsWatches B old → IsCovered B U paths → Follows D paths old new → HoldsWatches D new
-followed-over B D paths T U old new base tree holds covered f = followed B D paths old new holds (subst (λ (V : Tree). IsCovered B V paths) (sym tree) covered) f
+-- an index that followed the tree at these paths holds its watches
+pub followed-over : (B D : Tree) (paths : List Path) (T U : Tree) (old new : Links) → B ≡ T → D ≡ U → HoldsWatches B old → KeepsTargets B U paths → Follows D paths old new → HoldsWatches D new
+followed-over B D paths T U old new base tree holds keeps f = followed B D paths old new holds (subst (λ (V : Tree). KeepsTargets B V paths) (sym tree) keeps) f

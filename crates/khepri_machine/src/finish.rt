@@ -1,5 +1,5 @@
 // How a draft ends.
-ghost use Rattle.std.specs.Prelude.{◌≡◌, IfOk, OnOk, IsTrue};
+ghost use Rattle.std.specs.Prelude.{◌≡◌, false, IfOk, OnOk, IsTrue};
 ghost use Rattle.std.specs.Option.{option_copied, option_map};
 ghost use Rattle.std.specs.FinMap.{get};
 ghost use Rattle.khepri_types.specs.Exec.{State, pv_of, settle_within_limits, finish_write};
@@ -7,8 +7,9 @@ ghost use Rattle.khepri_types.specs.Settling.{stable};
 ghost use Rattle.khepri_types.specs.Sizes.{fits};
 ghost use Rattle.khepri_types.specs.Tree.{stands};
 ghost use Rattle.khepri_types.specs.Watching.{unmet_of, watch};
-ghost use Rattle.tree_nodes.specs.Drafts.{IsCovered};
-ghost use Rattle.worklist_laws.specs.Links.{HoldsWatches};
+ghost use Rattle.worklist_laws.specs.Candidates.{IsWithin};
+ghost use Rattle.worklist_laws.specs.Links.{HoldsWatches, targets_of};
+ghost use Rattle.khepri_machine.specs.Following.{KeepsTargets, KeepsTargetsAt};
 ghost use Rattle.khepri_machine.specs.Outcomes.{reply_and_next, IsOver};
 
 use crate::outcome::Outcome;
@@ -50,14 +51,60 @@ fn fits(draft: &Draft) -> bool
     draft.nodes() <= MAX_TREE_NODES as u64 && draft.bytes() <= MAX_TREE_BYTES
 }
 
-// The touched paths of the draft, in order.
-fn touched_paths<L: Ledger>(draft: &Draft, steps: &mut Steps<L>) -> Result<Vec<Path>, AllocError>
-    ensures { IfOk result (λ paths. IsCovered draft.now.base draft.now.tree paths.items) }
+// Whether the node at the path watches something in the draft, or is linked by the index of the tree under it.
+fn watches_or_watched<L: Ledger>(
+    draft: &Draft,
+    watchers: &Watchers,
+    path: &Path,
+    steps: &mut Steps<L>,
+) -> bool
+    requires index { HoldsWatches draft.now.base watchers.now }
+    ensures { result ≡ false → targets_of (get draft.now.base path.now) ≡ targets_of (get draft.now.tree path.now) }
+{
+    if watchers.is_linked(path) {
+        return true;
+    }
+    let Some(node) = draft.node(path, steps) else {
+        return false;
+    };
+    if node.watches.len() == 0 {
+        return false;
+    }
+    true
+}
+
+// Notes the path, if the node there watches something in the draft, or is linked by the index of the tree under it.
+fn note_link<L: Ledger>(
+    draft: &Draft,
+    watchers: &Watchers,
+    paths: &mut Vec<Path>,
+    path: &Path,
+    steps: &mut Steps<L>,
+) -> Result<(), AllocError>
+    requires index { HoldsWatches draft.now.base watchers.now }
+    ensures stays { OnOk result (IsWithin paths.old.items paths.new.items) }
+    ensures noted { OnOk result (KeepsTargetsAt draft.now.base draft.now.tree paths.new.items path.now) }
+{
+    if !watches_or_watched(draft, watchers, path, steps) {
+        return Ok(());
+    }
+    paths.push(path.copy()?)?;
+    Ok(())
+}
+
+// The touched paths at which the index may have to follow, in order: those that it links, and those whose nodes watch something now.
+fn paths_to_link<L: Ledger>(
+    draft: &Draft,
+    watchers: &Watchers,
+    steps: &mut Steps<L>,
+) -> Result<Vec<Path>, AllocError>
+    requires index { HoldsWatches draft.now.base watchers.now }
+    ensures { IfOk result (λ paths. KeepsTargets draft.now.base draft.now.tree paths.items) }
 {
     let mut paths = Vec::new(draft.alloc());
     let mut after = None;
     'touched: while let Some(path) = draft.touched_after(after, steps) {
-        paths.push(path.copy()?)?;
+        note_link(draft, watchers, &mut paths, path, steps)?;
         after = Some(path);
     }
     Ok(paths)
@@ -84,8 +131,8 @@ pub(crate) fn settle_within_limits<L: Ledger>(
         count: number,
         gone,
     };
-    let touched = touched_paths(&draft, steps)?;
-    Ok(Outcome::Changed(reply, draft.into_changes(), touched))
+    let paths = paths_to_link(&draft, watchers, steps)?;
+    Ok(Outcome::Changed(reply, draft.into_changes(), paths))
 }
 
 // A watch of the written node that isn't met refuses the command.

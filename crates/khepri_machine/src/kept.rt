@@ -68,7 +68,7 @@ impl Kept {
         self.position
     }
 
-    /// What an entry comes to becomes the next state, and the index follows at the touched paths alone.
+    /// What an entry comes to becomes the next state, and the index follows where nodes watch, or watched, something.
     pub(crate) fn apply<L: Ledger>(
         self,
         outcome: Outcome,
@@ -84,9 +84,9 @@ impl Kept {
                 kept.position += 1;
                 Ok((reply, kept))
             }
-            Outcome::Changed(reply, changes, touched) => {
+            Outcome::Changed(reply, changes, paths) => {
                 kept.tree.absorb(changes, steps)?;
-                follow(&kept.tree, touched.as_slice(), &mut kept.watchers, steps)?;
+                follow(&kept.tree, paths.as_slice(), &mut kept.watchers, steps)?;
                 kept.position += 1;
                 Ok((reply, kept))
             }

@@ -8,6 +8,6 @@ use tree_nodes::Changes;
 pub(crate) enum Outcome {
     /// The tree stays.
     Same(Reply),
-    /// The tree becomes what a draft came to, which touched these paths.
+    /// The tree becomes what a draft came to, which keeps the watches of all nodes but those at these paths.
     Changed(Reply, Changes, Vec<Path>),
 }

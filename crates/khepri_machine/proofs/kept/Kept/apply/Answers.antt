@@ -1,1 +1,0 @@
-use Rattle.khepri_machine.proofs.kept.Kept.apply.Goals as goal
