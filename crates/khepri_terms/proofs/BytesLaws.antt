@@ -11,7 +11,7 @@ use Rattle.percent_encoding.specs.Percent.{percent_encode_byte}
 use Rattle.khepri_terms.specs.Many.{◌>>=◌}
 use Rattle.khepri_terms.specs.Bytes.{is_plain, byte_text, bytes_text, AreBytes, hex_value, escape_at, byte_at, bytes_at}
 use Rattle.khepri_terms.proofs.Cases.{bind_some, if_some, guard_some, unless_some}
-use Rattle.khepri_terms.proofs.Reading.{ahead, Took, many_takes, many_again}
+use Rattle.khepri_terms.proofs.Reading.{ahead, Took, many_takes, many_again, many_done}
 
 pub plain_small : (b : ℕ) → is_plain b ≡ true → b < 256
 unfolding is_plain
@@ -150,3 +150,7 @@ byte_print whole out mid (b ∷ rest) le e so_far =
 pub all_printed : (whole out text : List ℕ) → length text < 1 → whole ≡ out ++ bytes_text text → out ≡ whole
 all_printed whole out [] lt so_far = sym (so_far ∙ append-nil out)
 all_printed whole out (b ∷ rest) lt so_far = absurd (omega (arith, lt))
+
+-- nothing is read behind plain bytes
+pub plain_all : (n : ℕ) (bytes text rest : List ℕ) → ArePlain bytes → length bytes ≤ n → text ≡ bytes ++ rest → bytes_at (n - length bytes) rest ≡ ([], rest) → bytes_at n text ≡ (bytes, rest)
+plain_all n bytes text rest all le is none = many_done _ _ _ (bytes_at (n - length bytes) rest) none (ap (λ (t : List ℕ). bytes_at n t) is ∙ plain_read bytes rest n all le)

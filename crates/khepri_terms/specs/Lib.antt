@@ -8,3 +8,4 @@ pub mod Numbers
 pub mod Records
 pub mod Lengths
 pub mod OrderLaws
+pub mod Places

@@ -1,4 +1,4 @@
-ghost use Rattle.std.specs.Prelude.{◌≡◌, nat_eq, IfOk, length};
+ghost use Rattle.std.specs.Prelude.{◌≡◌, nat_eq, IfOk, IfSome, length};
 ghost use Rattle.std.proofs.Common.{rules};
 ghost use Rattle.std.specs.Cmp.{partial_order_from_own_ties};
 ghost use Rattle.std.specs.Cmp.Rules.{comparing, hashing};
@@ -6,28 +6,67 @@ ghost use Rattle.std.specs.Cmp.Lexicographic.{pointwise, slice_cmp};
 ghost use Rattle.std.specs.Ordering.{nat_cmp, as_partial_cmp};
 ghost use Rattle.std.specs.Hash as fed;
 ghost use Rattle.khepri_terms.specs.Bytes.{AreBytes};
+ghost use Rattle.khepri_terms.specs.Places.{bytes_of, IsWithin};
 
 use std::alloc::{AllocError, Global};
 use std::cmp::Ordering;
 use std::hash::{Hash, Hasher};
 use std::marker::Model;
 
+/// How many bytes lie in the value itself, where they take no memory; most names and texts are as short.
+const INLINE: usize = 30;
+
+// Where bytes lie: the first `len` of an array, or memory of their own.
+#[derive(Drop)]
+enum Place {
+    Inline { bytes: [u8; INLINE], len: u8 },
+    Heap(Vec<u8>),
+}
+
 /// Bytes that contracts see as a list.
 #[derive(Drop)]
 pub struct Bytes {
-    items: Vec<u8>,
+    place: Place,
     alloc: Global,
 }
 
 impl Model for Bytes {
     ghost use Rattle.std.specs.Prelude.{List, ℕ};
     ghost use Rattle.khepri_terms.specs.Bytes.{AreBytes};
+    ghost use Rattle.khepri_terms.specs.Places.{bytes_of, IsWithin};
 
     ghost Value = { List ℕ };
 
-    ghost view = { λ b. b.items.items };
+    ghost view = { λ b. bytes_of b.place };
 
-    ghost invariant = { λ b. AreBytes b.items.items };
+    ghost invariant = { λ b. IsWithin b.place × AreBytes (bytes_of b.place) };
+}
+
+impl Place {
+    // A copy of these bytes, where they are few enough to need no memory.
+    fn inline(items: &[u8]) -> Option<Place>
+        ensures { IfSome result (λ p. IsWithin p × (bytes_of p ≡ items.now)) }
+    {
+        if items.len() > INLINE {
+            return None;
+        }
+        let mut bytes = [0; INLINE];
+        bytes[..items.len()].copy_from_slice(items);
+        Some(Place::Inline {
+            bytes,
+            len: items.len() as u8,
+        })
+    }
+
+    fn as_slice(&self) -> &[u8]
+        requires { IsWithin self.now }
+        ensures { result.now ≡ bytes_of self.now }
+    {
+        match self {
+            Place::Inline { bytes, len } => &bytes[..*len as usize],
+            Place::Heap(items) => items.as_slice(),
+        }
+    }
 }
 
 impl Bytes {
@@ -35,17 +74,24 @@ impl Bytes {
     pub fn from_vec(alloc: Global, items: Vec<u8>) -> Bytes
         ensures { result ≡ items.items }
     {
-        Bytes { items, alloc }
+        match Place::inline(items.as_slice()) {
+            Some(place) => Bytes { place, alloc },
+            None => Bytes {
+                place: Place::Heap(items),
+                alloc,
+            },
+        }
     }
 
     /// A copy of these bytes.
     pub fn from_slice(alloc: Global, items: &[u8]) -> Result<Bytes, AllocError>
         ensures { IfOk result (λ b. b ≡ items.now) }
     {
-        Ok(Bytes {
-            items: Vec::from_slice(alloc, items)?,
-            alloc,
-        })
+        let place = match Place::inline(items) {
+            Some(place) => place,
+            None => Place::Heap(Vec::from_slice(alloc, items)?),
+        };
+        Ok(Bytes { place, alloc })
     }
 
     /// The bytes, lent.
@@ -53,14 +99,14 @@ impl Bytes {
         ensures value { result.now ≡ self.now }
         ensures bytes { AreBytes self.now }
     {
-        self.items.as_slice()
+        self.place.as_slice()
     }
 
     /// How many bytes there are.
     pub fn len(&self) -> usize
         ensures { result ≡ length self.now }
     {
-        self.items.len()
+        self.as_slice().len()
     }
 
     /// A copy with memory of its own.
@@ -68,7 +114,7 @@ impl Bytes {
         ensures value { IfOk result (λ b. b ≡ self.now) }
         ensures bytes { AreBytes self.now }
     {
-        Bytes::from_slice(self.alloc, self.items.as_slice())
+        Bytes::from_slice(self.alloc, self.as_slice())
     }
 }
 

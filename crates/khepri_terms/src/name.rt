@@ -90,7 +90,6 @@ impl Name {
         ensures bad { result ≡ Err TextFault.Bad → named kind (name_at text.now) ≡ None }
     {
         let (bytes, rest) = read_name(alloc, text)?;
-        let bytes = Bytes::from_vec(alloc, bytes);
         Ok((Name { kind, bytes }, rest))
     }
 

@@ -309,7 +309,6 @@ fn read_field(alloc: Global, text: &[u8]) -> Result<(Field, &[u8]), TextFault>
 {
     let (key, rest) = read_name(alloc, text)?;
     let (value, rest) = read_value(alloc, rest)?;
-    let key = Bytes::from_vec(alloc, key);
     Ok((Field { key, value }, rest))
 }
 

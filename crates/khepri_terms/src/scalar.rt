@@ -36,7 +36,7 @@ impl Scalar {
             [] => Err(TextFault::Bad),
             [b'\'', bytes @ ..] => {
                 let (bytes, rest) = read_bytes(alloc, bytes, MAX_TEXT)?;
-                Ok((Scalar::Text(Bytes::from_vec(alloc, bytes)), rest))
+                Ok((Scalar::Text(bytes), rest))
             }
             [_, ..] => match read_int(text) {
                 Some((value, rest)) => Ok((Scalar::Int(value), rest)),

@@ -8,6 +8,7 @@ ghost use Rattle.khepri_terms.specs.Lengths.{capped};
 ghost use Rattle.khepri_terms.specs.Names.{IsNameBytes, is_dots, name_text, dots_at, undotted, name_at};
 ghost use Rattle.khepri_terms.specs.Bytes.{is_plain, byte_text, bytes_text, hex_value, escape_at, byte_at, bytes_at};
 
+use crate::bytes::Bytes;
 use crate::fault::TextFault;
 use crate::limits::MAX_NAME;
 use percent_encoding::percent_encode_byte;
@@ -100,12 +101,8 @@ fn plain_front(text: &[u8], max: usize) -> (&[u8], &[u8])
     text.split_at(len)
 }
 
-// As many bytes as are spelled at the front, at most `max`, and what is after them.
-pub(crate) fn read_bytes(
-    alloc: Global,
-    text: &[u8],
-    max: usize,
-) -> Result<(Vec<u8>, &[u8]), AllocError>
+// As many bytes as are spelled at the front, at most `max`, and what is after them, where some may be escaped.
+fn read_escaped(alloc: Global, text: &[u8], max: usize) -> Result<(Vec<u8>, &[u8]), AllocError>
     ensures { IfOk result (λ x. bytes_at max text.now ≡ (x.0.items, x.1.now)) }
 {
     let (front, behind) = plain_front(text, max);
@@ -123,6 +120,29 @@ pub(crate) fn read_bytes(
         }
     }
     Ok((bytes, rest))
+}
+
+// As many bytes as are spelled at the front, at most `max`, and what is after them. Those that stand for themselves are taken at once.
+pub(crate) fn read_bytes(
+    alloc: Global,
+    text: &[u8],
+    max: usize,
+) -> Result<(Bytes, &[u8]), AllocError>
+    ensures { IfOk result (λ x. bytes_at max text.now ≡ (x.0, x.1.now)) }
+{
+    let (front, behind) = plain_front(text, max);
+    let escaped = if front.len() < max {
+        read_byte(behind)
+    } else {
+        None
+    };
+    match escaped {
+        Some(_) => {
+            let (bytes, rest) = read_escaped(alloc, text, max)?;
+            Ok((Bytes::from_vec(alloc, bytes), rest))
+        }
+        None => Ok((Bytes::from_slice(alloc, front)?, behind)),
+    }
 }
 
 /// Appends the spelling of one byte; where memory is wanting, nothing.
@@ -159,13 +179,13 @@ pub(crate) fn print_bytes(bytes: &[u8], out: &mut Vec<u8>) -> Result<(), AllocEr
 }
 
 // The dots behind an escaped one, and what is after them.
-fn read_dots(alloc: Global, text: &[u8]) -> Result<(Vec<u8>, &[u8]), AllocError>
-    ensures value { IfOk result (λ x. dots_at text.now ≡ (x.0.items, x.1.now)) }
-    ensures name { IfOk result (λ x. IsNameBytes x.0.items) }
+fn read_dots(alloc: Global, text: &[u8]) -> Result<(Bytes, &[u8]), AllocError>
+    ensures value { IfOk result (λ x. dots_at text.now ≡ (x.0, x.1.now)) }
+    ensures name { IfOk result (λ x. IsNameBytes x.0) }
 {
     match text {
-        [b'.', rest @ ..] => Ok((Vec::from_slice(alloc, b"..")?, rest)),
-        _ => Ok((Vec::from_slice(alloc, b".")?, text)),
+        [b'.', rest @ ..] => Ok((Bytes::from_slice(alloc, b"..")?, rest)),
+        _ => Ok((Bytes::from_slice(alloc, b".")?, text)),
     }
 }
 
@@ -177,9 +197,9 @@ fn is_dots(name: &[u8]) -> bool
 }
 
 // The bytes of the name at the front that stands as it is, and what is after it.
-fn read_undotted(alloc: Global, text: &[u8]) -> Result<(Vec<u8>, &[u8]), TextFault>
-    ensures value { IfOk result (λ x. undotted (bytes_at MAX_NAME text.now) ≡ Some (x.0.items, x.1.now)) }
-    ensures name { IfOk result (λ x. IsNameBytes x.0.items) }
+fn read_undotted(alloc: Global, text: &[u8]) -> Result<(Bytes, &[u8]), TextFault>
+    ensures value { IfOk result (λ x. undotted (bytes_at MAX_NAME text.now) ≡ Some (x.0, x.1.now)) }
+    ensures name { IfOk result (λ x. IsNameBytes x.0) }
     ensures bad { result ≡ Err TextFault.Bad → undotted (bytes_at MAX_NAME text.now) ≡ None }
 {
     let (bytes, rest) = read_bytes(alloc, text, MAX_NAME)?;
@@ -191,9 +211,9 @@ fn read_undotted(alloc: Global, text: &[u8]) -> Result<(Vec<u8>, &[u8]), TextFau
 
 // The bytes of the name at the front, read as far as it goes, and what is after it.
 #[tactic(auto, unfolding(crate::specs::Names::name_at))]
-pub(crate) fn read_name(alloc: Global, text: &[u8]) -> Result<(Vec<u8>, &[u8]), TextFault>
-    ensures value { IfOk result (λ x. name_at text.now ≡ Some (x.0.items, x.1.now)) }
-    ensures name { IfOk result (λ x. IsNameBytes x.0.items) }
+pub(crate) fn read_name(alloc: Global, text: &[u8]) -> Result<(Bytes, &[u8]), TextFault>
+    ensures value { IfOk result (λ x. name_at text.now ≡ Some (x.0, x.1.now)) }
+    ensures name { IfOk result (λ x. IsNameBytes x.0) }
     ensures bad { result ≡ Err TextFault.Bad → name_at text.now ≡ None }
 {
     match text {

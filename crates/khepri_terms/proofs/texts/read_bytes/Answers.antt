@@ -1,40 +1,22 @@
-use Rattle.std.proofs.Common.{◌-◌, ◌+◌, ◌≡◌, ◌≤◌, ℕ, [], length, ap, ◌∙◌, arith}
-use Rattle.std.proofs.lemmas.List.{length-append}
+use Rattle.std.proofs.Common.{◌≡◌, ◌-◌, ◌∙◌, [], length, Option, Some, None, MatchOption, sym, arith}
 use Rattle.khepri_terms.specs.Bytes.{byte_at, bytes_at}
-use Rattle.khepri_terms.proofs.BytesLaws.{plain_on}
-use Rattle.khepri_terms.proofs.Reading.{many_on, many_done, many-end, many-full}
+use Rattle.khepri_terms.proofs.BytesLaws.{plain_all}
+use Rattle.khepri_terms.proofs.Reading.{many-end, many-full}
 use Rattle.khepri_terms.proofs.texts.read_bytes.Goals as goal
-use Rattle.khepri_terms.proofs.texts.read_bytes.Goals.{else-bytes-test, then-bytes-test+in-None}
+use Rattle.khepri_terms.proofs.texts.read_bytes.Goals.{then-front-max, else-front-max}
 
-pub bytes-init : goal.bytes-init
-bytes-init c =
+none_there : {X : Type 0} {P : Type 0} (Q : X → Type 0) (o : Option X) → o ≡ None → MatchOption o P Q → P
+none_there Q None is p = p
+none_there Q (Some x) is p = absurd cc
+
+pub returns-in_ok-from_slice-in-None : goal.returns-in_ok-from_slice-in-None
+returns-in_ok-from_slice-in-None c =
     let run = c.plain_front in
-    let items = c.in_ok-bytes.ensures.items in
-    let none : c.args.max ≡ c.args.max - 0 = omega arith in
-    record {
-      read = plain_on (bytes_at c.args.max c.args.text.now) c.args.max [] c.in_ok-bytes.bytes.items run.result.0.now c.args.text.now run.result.1.now (omega (arith, run.ensures.few)) run.ensures.plain run.ensures.parts items (ap (λ (n : ℕ). bytes_at n c.args.text.now) none);
-      few = omega (arith, run.ensures.few, ap length items);
-    }
-
-pub bytes-preserved : goal.bytes-preserved
-bytes-preserved c =
-    let total = bytes_at c.args.max c.args.text.now in
-    let read = c.bytes.bytes.items in
-    let more = c.push.new.self.items in
-    let all = c.extend_from_slice.new.self.items in
-    let run = c.plain_front-in-Some in
-    let items = c.in_ok-extend_from_slice-in-Some.ensures.items in
-    let room : length more + length run.result.0.now ≤ c.args.max = omega (arith, run.ensures.few, c.in_ok-push-in-Some.ensures.len) in
-    record {
-      read = plain_on total c.args.max more all run.result.0.now c.in-Some.after.now run.result.1.now room run.ensures.plain run.ensures.parts items
-          (many_on byte_at total c.args.max read more c.in-Some.byte c.bytes.rest.now c.in-Some.after.now (omega arith) c.in-Some.ensures c.in_ok-push-in-Some.ensures.items c.bytes.invariant.read);
-      few = omega (arith, room, ap length items ∙ length-append more run.result.0.now);
-    }
-
-pub returns : goal.returns
-returns c =
-    let k = c.args.max - length c.bytes.bytes.items in
-    elim c.bytes-test.branch [
-      | else-bytes-test w ↦ many_done _ _ _ (bytes_at k c.bytes.rest.now) (many-full byte_at k c.bytes.rest.now (omega arith)) c.bytes.invariant.read
-      | then-bytes-test+in-None w ↦ many_done _ _ _ (bytes_at k c.bytes.rest.now) (many-end byte_at k c.bytes.rest.now w.in-None.ensures) c.bytes.invariant.read
-    ]
+    let k = c.args.max - length run.result.0.now in
+    let text = run.result.1.now in
+    let made = c.in_ok-from_slice-in-None in
+    let none : bytes_at k text ≡ ([], text) = elim c.if-front-max.branch [
+      | then-front-max w ↦ many-end byte_at k text (none_there _ w.read_byte-escaped.result (sym w.escaped-is ∙ c.in-None.is) w.read_byte-escaped.ensures)
+      | else-front-max w ↦ many-full byte_at k text (omega (arith, w.if-front-max.false))
+    ] in
+    rw made.ensures (plain_all c.args.max run.result.0.now c.args.text.now text run.ensures.plain run.ensures.few run.ensures.parts none)

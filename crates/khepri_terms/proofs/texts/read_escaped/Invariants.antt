@@ -1,7 +1,7 @@
 use Rattle.std.proofs.Common.{◌≡◌, ◌-◌, ◌≤◌, length}
 use Rattle.khepri_terms.specs.Bytes.{bytes_at}
 use Rattle.khepri_terms.proofs.Reading.{ahead}
-use Rattle.khepri_terms.proofs.texts.read_bytes.Given as goal
+use Rattle.khepri_terms.proofs.texts.read_escaped.Given as goal
 
 abbrev pub invariant-bytes : goal.invariant-bytes
 invariant-bytes l = record {
