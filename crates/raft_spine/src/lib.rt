@@ -2,7 +2,7 @@
 //! safety is about, the terms, votes and whole logs of all nodes and the leader of each term, and seven moves change it,
 //! each the sense of one rule of Raft. Whatever list of moves is made, the laws hold. This crate knows the entries of
 //! the log, and nothing of messages, roles, commit indexes, snapshots or files: which moves an event of a node makes is
-//! for the crates above to say, and until they do, no running code is meant by the laws.
+//! said in `raft_claims`.
 #![tactic(auto)]
 
 ghost use Rattle.std.specs.Prelude.{◌≡◌, ℕ, List, [], ◌∷◌};
