@@ -21,8 +21,8 @@ loop-name-preserved-in_ok-insert c =
     record {
       left = sorted_rest name_cmp (k, v) left rest front before.left;
       each = all.1;
-      tables = added k c.in_ok-copy.field-0 c.in_ok-copy-2.field-0 c.loop-name.all c.insert.new.self before.tables c.in_ok-copy.ensures c.in_ok-insert.ensures.updates c.in_ok-insert.ensures.entries c.in_ok-insert.ensures.ordered c.in_ok-copy-2.ensures.table;
-      copied = one_copied name_cmp table_of name_cmp_total k v c.in_ok-copy-2.field-0 left rest c.loop-name.all.entries c.insert.new.self.entries c.args.tables.now.entries front before.left c.in_ok-copy-2.ensures.value (updated_copied k c.in_ok-copy.field-0 c.in_ok-copy-2.field-0 c.loop-name.all c.insert.new.self c.in_ok-copy.ensures c.in_ok-insert.ensures.updates) before.copied;
+      tables = added k c.in_ok-copy.field-0 c.in_ok-copy-2.field-0 c.loop-name.all c.insert-in-loop-name.new.self before.tables c.in_ok-copy.ensures c.in_ok-insert.ensures.updates c.in_ok-insert.ensures.entries c.in_ok-insert.ensures.ordered c.in_ok-copy-2.ensures.table;
+      copied = one_copied name_cmp table_of name_cmp_total k v c.in_ok-copy-2.field-0 left rest c.loop-name.all.entries c.insert-in-loop-name.new.self.entries c.args.tables.now.entries front before.left c.in_ok-copy-2.ensures.value (updated_copied k c.in_ok-copy.field-0 c.in_ok-copy-2.field-0 c.loop-name.all c.insert-in-loop-name.new.self c.in_ok-copy.ensures c.in_ok-insert.ensures.updates) before.copied;
     }
 
 pub loop-name-preserved : goal.loop-name-preserved
@@ -37,8 +37,8 @@ loop-name-preserved c =
     record {
       left = sorted_rest name_cmp (k, v) left rest front before.left;
       each = all.1;
-      tables = added k c.in_ok-copy.field-0 c.in_ok-copy-2.field-0 c.loop-name.all c.insert.new.self before.tables c.in_ok-copy.ensures c.in_ok-insert.ensures.updates c.in_ok-insert.ensures.entries c.in_ok-insert.ensures.ordered c.in_ok-copy-2.ensures.table;
-      copied = one_copied name_cmp table_of name_cmp_total k v c.in_ok-copy-2.field-0 left rest c.loop-name.all.entries c.insert.new.self.entries c.args.tables.now.entries front before.left c.in_ok-copy-2.ensures.value (updated_copied k c.in_ok-copy.field-0 c.in_ok-copy-2.field-0 c.loop-name.all c.insert.new.self c.in_ok-copy.ensures c.in_ok-insert.ensures.updates) before.copied;
+      tables = added k c.in_ok-copy.field-0 c.in_ok-copy-2.field-0 c.loop-name.all c.insert-in-loop-name.new.self before.tables c.in_ok-copy.ensures c.in_ok-insert.ensures.updates c.in_ok-insert.ensures.entries c.in_ok-insert.ensures.ordered c.in_ok-copy-2.ensures.table;
+      copied = one_copied name_cmp table_of name_cmp_total k v c.in_ok-copy-2.field-0 left rest c.loop-name.all.entries c.insert-in-loop-name.new.self.entries c.args.tables.now.entries front before.left c.in_ok-copy-2.ensures.value (updated_copied k c.in_ok-copy.field-0 c.in_ok-copy-2.field-0 c.loop-name.all c.insert-in-loop-name.new.self c.in_ok-copy.ensures c.in_ok-insert.ensures.updates) before.copied;
     }
 
 pub returns-clause-value : goal.returns-clause-value
