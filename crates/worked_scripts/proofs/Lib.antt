@@ -1,0 +1,3 @@
+pub mod Gathering
+pub mod Masking
+pub mod Roots
