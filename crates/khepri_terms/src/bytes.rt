@@ -118,6 +118,28 @@ impl Bytes {
     }
 }
 
+// Which of two comes first, byte by byte: a search compares names whose first few bytes tell.
+fn order(left: &[u8], right: &[u8]) -> Ordering
+    ensures { result ≡ slice_cmp nat_cmp left.now right.now }
+{
+    let mut a = left;
+    let mut b = right;
+    'bytes: while let [x, rest_a @ ..] = a {
+        let [y, rest_b @ ..] = b else {
+            return Ordering::Greater;
+        };
+        if *x != *y {
+            return x.cmp(y);
+        }
+        a = rest_a;
+        b = rest_b;
+    }
+    match b {
+        [] => Ordering::Equal,
+        [_, ..] => Ordering::Less,
+    }
+}
+
 impl PartialEq for Bytes {
     ghost eq = { pointwise nat_eq };
 
@@ -152,7 +174,7 @@ impl Ord for Bytes {
     ghost matches_eq = { Prim.search (comparing, rules) };
 
     fn cmp(&self, other: &Bytes) -> Ordering {
-        self.as_slice().cmp(other.as_slice())
+        order(self.as_slice(), other.as_slice())
     }
 }
 
