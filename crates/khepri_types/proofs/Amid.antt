@@ -18,8 +18,9 @@ use Rattle.khepri_types.specs.Calm.{answer, answers}
 use Rattle.khepri_types.proofs.Outputs.{All-append, All-weaker, NamesBelow, NamesFrom, history-append, run_from-append, slice_get-behind}
 use Rattle.khepri_types.proofs.After.{position-after}
 use Rattle.khepri_types.proofs.Spelling.{line_at-takes}
-use Rattle.khepri_types.proofs.Payloads.{AllSpelled, spelled-after}
-use Rattle.khepri_types.proofs.PathsWritten.{AllWritten, written-after}
+use Rattle.khepri_types.proofs.Legible.{IsLegible, legible-after}
+use Rattle.khepri_types.proofs.Payloads.{AllSpelled}
+use Rattle.khepri_types.proofs.PathsWritten.{AllWritten}
 use Rattle.khepri_types.proofs.Answering.{answer-is, answers-more, answers-none}
 
 -- these lines were written before line l is answered at state S, and these input lines are left
@@ -90,8 +91,8 @@ amid-entered input before l S bytes rest c is a =
       state = ap (run_from opening_state) told ∙ (run_from-append (history before) (text.Command c ∷ []) opening_state ∙ ap (λ (U : State). (exec_command U c).1) a.state);
       position = omega (arith, position-after S c, a.position, ap length told, length-append (history before) (text.Command c ∷ []));
       few = omega (arith, position-after S c, a.few);
-      payloads = spelled-after S c is a.payloads;
-      paths = written-after S c is a.paths;
+      payloads = (legible-after S c is (record { payloads = a.payloads; paths = a.paths })).payloads;
+      paths = (legible-after S c is (record { payloads = a.payloads; paths = a.paths })).paths;
       early = All-append (NamesBelow (l + 1)) one (reply_line l S c ∷ []) first (omega arith, tt);
     }
 

@@ -7,13 +7,13 @@ use Rattle.khepri_types.specs.declared.watch.Watching.{Watching}
 use Rattle.khepri_types.specs.Tree.{Tree, stands}
 use Rattle.khepri_types.specs.Drop.{drop}
 use Rattle.khepri_types.specs.Settling.{settle}
-use Rattle.khepri_types.specs.Watching.{set_watched}
+use Rattle.khepri_types.specs.Watching.{watch, set_watched}
 use Rattle.khepri_types.proofs.Dropping.{stood-drop}
 use Rattle.khepri_types.proofs.Growing.{same_or_apart}
 use Rattle.khepri_types.proofs.Remaining.{remains-settle, within-remains}
 use Rattle.khepri_types.proofs.Standing.{front_or_away}
 use Rattle.khepri_types.proofs.Trees.{set-elsewhere}
-use Rattle.khepri_types.proofs.Watched.{set_watched-elsewhere}
+use Rattle.khepri_types.proofs.Watched.{stood-watch, set_watched-elsewhere}
 
 -- it holds of each path that stands
 abbrev pub Everywhere : (List NameText → Type 0) → Tree → Type 0
@@ -31,6 +31,9 @@ everywhere-set K closed T p x w here all q h = elim (front_or_away p q) as (λ _
     | inr apart ↦ all q (sym (ap is_some (set_watched-elsewhere T p x w q apart ∙ set-elsewhere T p x q away)) ∙ h)
   ]
 ]
+
+pub everywhere-watch : (K : List NameText → Type 0) (T : Tree) (p : List NameText) (w : Watching) → Everywhere K T → Everywhere K (watch T p w)
+everywhere-watch K T p w all q h = all q (stood-watch T p w q h)
 
 pub everywhere-drop : (K : List NameText → Type 0) (T : Tree) (paths : List (List NameText)) → Everywhere K T → Everywhere K (drop T paths)
 everywhere-drop K T paths all q h = let was = (stood-drop T paths q h).1 in all q (ap is_some was.stood)

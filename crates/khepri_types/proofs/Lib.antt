@@ -43,3 +43,14 @@ pub mod LayersAgain
 pub mod PatternSpelling
 mod Commas
 pub mod PlaceOrder
+pub mod ItemLaws
+pub mod LeafLaws
+pub mod ScriptWordLaws
+pub mod ExprLaws
+pub mod ScriptSpelling
+pub mod Sameness
+pub mod RunSpelling
+pub mod ValueSpelling
+pub mod Running
+pub mod ScriptValues
+pub mod Legible

@@ -7,14 +7,8 @@ use Rattle.khepri_terms.specs.Terms.{NameText}
 use Rattle.khepri_terms.specs.Names.{IsName}
 use Rattle.khepri_terms.specs.Paths.{IsPath, step_text, path_text}
 use Rattle.khepri_terms.proofs.PathsLaws.{path_text-more, path_text-root}
-use Rattle.khepri_types.specs.declared.command.Command.{Command}
 use Rattle.khepri_types.specs.Tree.{Tree, opening_tree}
-use Rattle.khepri_types.specs.Drop.{drop}
-use Rattle.khepri_types.specs.Exec.{State, exec_command}
-use Rattle.khepri_types.specs.Spelled.{IsCommand}
-use Rattle.khepri_types.specs.Watching.{set_watched}
-use Rattle.khepri_types.proofs.After.{met}
-use Rattle.khepri_types.proofs.Everywhere.{Everywhere, IsClosed, everywhere-set, everywhere-drop, everywhere-settle}
+use Rattle.khepri_types.proofs.Everywhere.{Everywhere, IsClosed}
 use Rattle.khepri_types.proofs.Matching.{All-take}
 use Rattle.khepri_types.proofs.Standing.{get-opening}
 
@@ -34,21 +28,10 @@ front_short (suc i) [] short = short
 front_short (suc i) (n ∷ ns) short =
     omega (arith, short, ap length (path_text-more n ns), ap length (path_text-more n (take i ns)), fewer_steps (suc i) (n ∷ ns))
 
-path_closed : IsClosed IsPath
+pub path_closed : IsClosed IsPath
 path_closed = record { fronts = λ p i le is. record { names = All-take IsName i p is.names; short = front_short i p is.short } }
 
-pub written-after : (S : State) (c : Command) → IsCommand c → AllWritten S.tree → AllWritten (exec_command S c).1.tree
-written-after S c is all = met (λ y. AllWritten y.1.tree) S c (record {
-  refuses = λ r not. all;
-  breaks = λ p x w u may e. all;
-  shows = λ p. all;
-  lists = λ parts limit. all;
-  counts = λ parts. all;
-  sets = λ p x w may place fit. everywhere-settle IsPath (set_watched S.tree p x w) (everywhere-set IsPath path_closed S.tree p x w (may is).0 all);
-  drops = λ paths apart fit. everywhere-settle IsPath (drop S.tree paths) (everywhere-drop IsPath S.tree paths all);
-})
-
-root_written : IsPath []
+pub root_written : IsPath []
 root_written = record { names = tt; short = omega (arith, ap length path_text-root) }
 
 pub written-opening : AllWritten opening_tree

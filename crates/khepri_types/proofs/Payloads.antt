@@ -8,20 +8,18 @@ use Rattle.khepri_terms.proofs.Cases.{some_is}
 use Rattle.khepri_terms.specs.OrderLaws.{rec_decides}
 use Rattle.khepri_types.specs.declared.node.Node.{Node}
 use Rattle.khepri_types.specs.declared.node.Payload.{Payload}
-use Rattle.khepri_types.specs.declared.node.Payload.TheVariants.{Empty, Fields}
+use Rattle.khepri_types.specs.declared.node.Payload.TheVariants.{Empty, Fields, Proc}
 use Rattle.khepri_types.specs.declared.watch.Watch.{Watch}
 use Rattle.khepri_types.specs.declared.watch.Watching.{Watching}
 use Rattle.khepri_types.specs.declared.watch.Watching.TheVariants.{While}
-use Rattle.khepri_types.specs.declared.command.Command.{Command}
 use Rattle.khepri_types.specs.Tree.{Tree, same_payload, end_node, way_node, set, opening_tree}
 use Rattle.khepri_types.specs.Drop.{drop}
-use Rattle.khepri_types.specs.Exec.{State, exec_command}
 use Rattle.khepri_types.specs.Settling.{is_met, failing, settle}
-use Rattle.khepri_types.specs.Spelled.{IsPayload, IsWatch, IsWatching, IsCommand}
+use Rattle.khepri_types.specs.Spelled.{IsPayload, IsWatch, IsWatching}
 use Rattle.khepri_types.specs.Watching.{set_watched, first_unmet, unmet_of}
-use Rattle.khepri_types.proofs.After.{met}
 use Rattle.khepri_types.proofs.Each.{Each, OfOld, each-set, each-drop, each-opening}
 use Rattle.khepri_types.proofs.Rounds.{settle-keeps}
+use Rattle.khepri_types.proofs.Sameness.{script_decides}
 use Rattle.khepri_types.proofs.Watched.{each-watch}
 
 -- what a node has can be written
@@ -53,29 +51,18 @@ spelled-set_watched T p x w is-x is-w all = each-watch IsWritable IsWritable (se
   given = λ n watches e h. record { payload = h.payload; watches = given-spelled w watches is-w e };
 }) (each-set IsWritable IsWritable T p x (record { elsewhere = λ n h. h; at_path = end-spelled x is-x; on_the_way = way-spelled }) all)
 
-spelled-drop : (T : Tree) (paths : List (List NameText)) → AllSpelled T → AllSpelled (drop T paths)
+pub spelled-drop : (T : Tree) (paths : List (List NameText)) → AllSpelled T → AllSpelled (drop T paths)
 spelled-drop T paths all = each-drop IsWritable IsWritable T paths (λ n h. record { payload = h.payload; watches = h.watches }) (λ n h. h) all
 
-spelled-settle : (T : Tree) → AllSpelled T → AllSpelled (settle T)
+pub spelled-settle : (T : Tree) → AllSpelled T → AllSpelled (settle T)
 spelled-settle T all = settle-keeps AllSpelled (record { stays = λ U e h. spelled-drop U (failing U) h }) T all
-
-pub spelled-after : (S : State) (c : Command) → IsCommand c → AllSpelled S.tree → AllSpelled (exec_command S c).1.tree
-spelled-after S c is all = met (λ y. AllSpelled y.1.tree) S c (record {
-  refuses = λ r not. all;
-  breaks = λ p x w u may e. all;
-  shows = λ p. all;
-  lists = λ parts limit. all;
-  counts = λ parts. all;
-  sets = λ p x w may place fit. spelled-settle (set_watched S.tree p x w) (spelled-set_watched S.tree p x w (may is).1 (may is).2 all);
-  drops = λ paths apart fit. spelled-settle (drop S.tree paths) (spelled-drop S.tree paths all);
-})
 
 pub spelled-opening : AllSpelled opening_tree
 spelled-opening = each-opening IsWritable (record { payload = tt; watches = tt })
 
 -- ---- a watch that isn't met is a watch of the node
 
-first-of : (P : Watch → Type 0) (T : Tree) (watches : List Watch) (u : Watch) → AllByRecursion P watches → first_unmet T watches ≡ Some u → P u
+pub first-of : (P : Watch → Type 0) (T : Tree) (watches : List Watch) (u : Watch) → AllByRecursion P watches → first_unmet T watches ≡ Some u → P u
 first-of P T [] u all e = absurd cc
 first-of P T (w ∷ watches) u all e = elim (is_met T w) as (λ b. cond b (first_unmet T watches) (Some w) ≡ Some u → P u) [
   | true ↦ λ later. first-of P T watches u all.1 later
@@ -95,5 +82,10 @@ unmet-spelled T p u all e = unmet-of T p (get T p) u refl all e
 pub payload_decides : (a b : Payload) → IsTrue (same_payload a b) ↔ (a ≡ b)
 payload_decides Empty Empty = (λ e. refl, λ e. refl)
 payload_decides Empty (Fields b) = (λ e. absurd cc, λ e. absurd cc)
+payload_decides Empty (Proc t) = (λ e. absurd cc, λ e. absurd cc)
 payload_decides (Fields a) Empty = (λ e. absurd cc, λ e. absurd cc)
 payload_decides (Fields a) (Fields b) = (λ e. ap Fields ((rec_decides a b).0 e), λ e. (rec_decides a b).1 cc)
+payload_decides (Fields a) (Proc t) = (λ e. absurd cc, λ e. absurd cc)
+payload_decides (Proc s) Empty = (λ e. absurd cc, λ e. absurd cc)
+payload_decides (Proc s) (Fields b) = (λ e. absurd cc, λ e. absurd cc)
+payload_decides (Proc s) (Proc t) = (λ e. ap Proc ((script_decides s t).0 e), λ e. (script_decides s t).1 cc)

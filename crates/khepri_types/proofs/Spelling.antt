@@ -8,7 +8,7 @@ use Rattle.khepri_terms.specs.Paths.{path_text, IsPath}
 use Rattle.khepri_terms.proofs.Cases.{guard_some, some_is, and_true}
 use Rattle.khepri_types.specs.declared.node.Payload.{Payload}
 use Rattle.khepri_types.specs.declared.command.Command.{Command}
-use Rattle.khepri_types.specs.declared.command.Command.TheVariants.{Put, Create, Update, Cas, Clear, Del, Delmany, Get, Many, Count}
+use Rattle.khepri_types.specs.declared.command.Command.TheVariants.{Put, Create, Update, Cas, Clear, Del, Delmany, Get, Many, Count, Tx, Run}
 use Rattle.khepri_types.specs.declared.command.Line.{Line}
 use Rattle.khepri_types.specs.declared.command.Line.TheVariants as line
 use Rattle.khepri_types.specs.declared.pattern.PatternPart.{PatternPart}
@@ -16,9 +16,10 @@ use Rattle.khepri_types.specs.declared.watch.Watching.{Watching}
 use Rattle.khepri_types.specs.PatternTexts.{pattern_text, IsPattern}
 use Rattle.khepri_types.specs.Texts.{assigned_text, command_text, line_text}
 use Rattle.khepri_types.specs.Spelled.{IsNode, IsPayload, IsWatching, IsCommand, IsLine}
-use Rattle.khepri_types.specs.Reading.{begins, spelled_path, Assigned, spelled_assigned, assigning, naming, spelled_cas, spelled_pattern, scanning, spelled_many, deleting_or_asking, spelled_command, asked, line_at}
+use Rattle.khepri_types.specs.Reading.{begins, spelled_path, Assigned, spelled_assigned, assigning, naming, spelled_cas, spelled_pattern, scanning, spelled_many, running, deleting_or_asking, spelled_command, asked, line_at}
 use Rattle.khepri_types.proofs.AskedSpelling.{spelled_pattern-takes, spelled_pattern-again, cas_takes, cas_again, many_command-takes, many_command-again}
 pub use Rattle.khepri_types.proofs.PayloadSpelling.{spelled_payload-takes, spelled_payload-again, spelled_path-takes, spelled_path-again, payload_takes, payload_again, spelled_assigned-takes, spelled_assigned-again}
+use Rattle.khepri_types.proofs.RunSpelling.{tx_again, run_again, running_takes}
 use Rattle.khepri_types.proofs.Word.{if_read, word_takes}
 
 -- ---- commands
@@ -114,11 +115,11 @@ spelled_command-takes text c e =
     (λ e. if_read {P = (text ≡ command_text c) × IsCommand c} (begins (codes "get ") text) (naming Get (spelled_path (drop 4 text))) _ c e (naming_takes Get (codes "get ") text c get_text (λ p is. is))
     (λ e. if_read {P = (text ≡ command_text c) × IsCommand c} (begins (codes "many ") text) (spelled_many (drop 5 text)) _ c e (λ is h. let t = many_command-takes (drop 5 text) c h in (word_takes (codes "many ") text is ∙ t.0, t.1))
     (λ e. if_read {P = (text ≡ command_text c) × IsCommand c} (begins (codes "count ") text) (scanning Count (spelled_pattern (drop 6 text))) _ c e (scanning_takes Count (codes "count ") text c count_text (λ parts is. is))
-    (λ e. absurd cc))))))))))
+    (λ e. running_takes text c e))))))))))
 
 -- what is spelled as a command is read again
 pub spelled_command-again : (c : Command) → IsCommand c → spelled_command (command_text c) ≡ Some c
-unfolding spelled_command deleting_or_asking command_text
+unfolding spelled_command deleting_or_asking running command_text
 spelled_command-again (Put p x w) is = ap (assigning Put) (spelled_assigned-again p x w is.0 is.1 is.2)
 spelled_command-again (Create p x w) is = ap (assigning Create) (spelled_assigned-again p x w is.0 is.1 is.2)
 spelled_command-again (Update p x w) is = ap (assigning Update) (spelled_assigned-again p x w is.0 is.1 is.2)
@@ -129,6 +130,8 @@ spelled_command-again (Delmany parts) is = ap (scanning Delmany) (spelled_patter
 spelled_command-again (Get p) is = ap (naming Get) (spelled_path-again p is)
 spelled_command-again (Many parts limit) is = many_command-again parts limit is.0 is.1 is.2
 spelled_command-again (Count parts) is = ap (scanning Count) (spelled_pattern-again parts is)
+spelled_command-again (Tx args s) is = tx_again args s is.0 is.1
+spelled_command-again (Run p args) is = run_again p args is.0 is.1
 
 -- ---- input lines
 

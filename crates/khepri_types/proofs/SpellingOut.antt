@@ -9,7 +9,7 @@ use Rattle.khepri_terms.specs.Many.{◌>>=◌}
 use Rattle.khepri_terms.proofs.Cases.{bind_some, guard_some, some_is, and_true}
 use Rattle.khepri_types.specs.declared.node.Payload.{Payload}
 use Rattle.khepri_types.specs.declared.command.Command.{Command}
-use Rattle.khepri_types.specs.declared.command.Command.TheVariants.{Put, Create, Update, Cas, Clear, Del, Delmany, Get, Many, Count}
+use Rattle.khepri_types.specs.declared.command.Command.TheVariants.{Put, Create, Update, Cas, Clear, Del, Delmany, Get, Many, Count, Tx, Run}
 use Rattle.khepri_types.specs.declared.reply.Reply.{Reply}
 use Rattle.khepri_types.specs.declared.reply.Reply.TheVariants as reply
 use Rattle.khepri_types.specs.declared.out.EntryText.{EntryText}
@@ -26,10 +26,11 @@ use Rattle.khepri_types.specs.Texts.{payload_text, command_text, reply_text, ent
 use Rattle.khepri_types.specs.Spelled.{IsNumber, IsNode, IsPayload, IsCommand, IsReply, IsEntryText, HasSpelling}
 use Rattle.khepri_types.specs.Reading.{begins, is_word, spelled_payload, spelled_path, spelled_command}
 use Rattle.khepri_types.specs.ReadingNumbers.{number_before, three_before, spelled_number}
-use Rattle.khepri_types.specs.ReadingOut.{changed_at, node_at, nodes_at, count_at, while_no, spelled_no, spelled_reply, command_entry, fire_entry, older_entry, spelled_entry, spelled_reason, spelled_stop, spelled_rows, entry_line, reply_line, refused_line, end_line, pending_line, rows_line, leads_line, follows_line, stopped_line, node_news, node_line, out_at}
+use Rattle.khepri_types.specs.ReadingOut.{changed_at, node_at, nodes_at, count_at, done_at, abort_no, script_no, while_no, spelled_no, spelled_reply, command_entry, fire_entry, older_entry, spelled_entry, spelled_reason, spelled_stop, spelled_rows, entry_line, reply_line, refused_line, end_line, pending_line, rows_line, leads_line, follows_line, stopped_line, node_news, node_line, out_at}
 use Rattle.khepri_types.proofs.Word.{if_read, word_takes}
 use Rattle.khepri_types.proofs.NumberSpelling.{joined, before_takes, space_again, at_again, three_takes, three_again, spelled_number-takes, spelled_number-again}
 use Rattle.khepri_types.proofs.ListSpelling.{SpellsReply, nodes_takes, nodes_again}
+use Rattle.khepri_types.proofs.ValueSpelling.{done_takes, done_again, abort_takes, abort_again}
 use Rattle.khepri_types.proofs.Spelling.{spelled_payload-takes, spelled_payload-again, spelled_path-takes, spelled_path-again, spelled_command-takes, spelled_command-again, digit_is}
 
 -- a text that is this word
@@ -101,6 +102,15 @@ while_again : (p : List NameText) → IsPath p → while_no (path_text p) ≡ So
 unfolding while_no
 while_again p is = ap (λ (o : Option (List NameText)). o >>= λ q. Some (reply.NoWhile q)) (spelled_path-again p is)
 
+script_no-takes : (text : List ℕ) (x : Reply) → script_no text ≡ Some x → SpellsReply text x
+unfolding script_no reply_text
+script_no-takes text x e =
+    if_read {P = SpellsReply text x} (is_word (codes "no script") text) (Some reply.NoScript) _ x e (word_is SpellsReply reply.NoScript x (codes "no script") text (refl, tt))
+    (λ e. if_read {P = SpellsReply text x} (is_word (codes "no name") text) (Some reply.NoName) _ x e (word_is SpellsReply reply.NoName x (codes "no name") text (refl, tt))
+    (λ e. if_read {P = SpellsReply text x} (is_word (codes "no spent") text) (Some reply.NoSpent) _ x e (word_is SpellsReply reply.NoSpent x (codes "no spent") text (refl, tt))
+    (λ e. if_read {P = SpellsReply text x} (begins (codes "no abort ") text) (abort_no (drop 9 text)) None x e (λ is h. let t = abort_takes (drop 9 text) x h in (word_takes (codes "no abort ") text is ∙ t.0, t.1))
+    (λ e. absurd cc))))
+
 no_takes : (text : List ℕ) (x : Reply) → spelled_no text ≡ Some x → SpellsReply text x
 unfolding spelled_no reply_text
 no_takes text x e =
@@ -110,8 +120,8 @@ no_takes text x e =
     (λ e. if_read {P = SpellsReply text x} (is_word (codes "no absent") text) (Some reply.NoAbsent) _ x e (word_is SpellsReply reply.NoAbsent x (codes "no absent") text (refl, tt))
     (λ e. if_read {P = SpellsReply text x} (is_word (codes "no mismatch") text) (Some reply.NoMismatch) _ x e (word_is SpellsReply reply.NoMismatch x (codes "no mismatch") text (refl, tt))
     (λ e. if_read {P = SpellsReply text x} (is_word (codes "no full") text) (Some reply.NoFull) _ x e (word_is SpellsReply reply.NoFull x (codes "no full") text (refl, tt))
-    (λ e. if_read {P = SpellsReply text x} (begins (codes "no while ") text) (while_no (drop 9 text)) None x e (λ is h. let t = while_takes (drop 9 text) x h in (word_takes (codes "no while ") text is ∙ t.0, t.1))
-    (λ e. absurd cc)))))))
+    (λ e. if_read {P = SpellsReply text x} (begins (codes "no while ") text) (while_no (drop 9 text)) _ x e (λ is h. let t = while_takes (drop 9 text) x h in (word_takes (codes "no while ") text is ∙ t.0, t.1))
+    (λ e. script_no-takes text x e)))))))
 
 pub spelled_reply-takes : (text : List ℕ) (x : Reply) → spelled_reply text ≡ Some x → SpellsReply text x
 unfolding spelled_reply
@@ -120,20 +130,26 @@ spelled_reply-takes text x e =
     (λ e. if_read {P = SpellsReply text x} (begins (codes "node ") text) (node_at (drop 5 text)) _ x e (λ is h. let t = node_takes (drop 5 text) x h in (word_takes (codes "node ") text is ∙ t.0, t.1))
     (λ e. if_read {P = SpellsReply text x} (begins (codes "nodes ") text) (nodes_at (drop 6 text)) _ x e (λ is h. let t = nodes_takes (drop 6 text) x h in (word_takes (codes "nodes ") text is ∙ t.0, t.1))
     (λ e. if_read {P = SpellsReply text x} (begins (codes "count ") text) (count_at (drop 6 text)) _ x e (λ is h. let t = count_takes (drop 6 text) x h in (word_takes (codes "count ") text is ∙ t.0, t.1))
-    (λ e. no_takes text x e))))
+    (λ e. if_read {P = SpellsReply text x} (begins (codes "done ") text) (done_at (drop 5 text)) _ x e (λ is h. let t = done_takes (drop 5 text) x h in (word_takes (codes "done ") text is ∙ t.0, t.1))
+    (λ e. no_takes text x e)))))
 
 pub spelled_reply-again : (x : Reply) → IsReply x → spelled_reply (reply_text x) ≡ Some x
-unfolding spelled_reply spelled_no reply_text
+unfolding spelled_reply spelled_no script_no reply_text
 spelled_reply-again (reply.Changed n k) is = changed_again n k is.0 is.1
 spelled_reply-again (reply.Node pv cv kids x) is = node_again pv cv kids x is.0 is.1 is.2 is.3
 spelled_reply-again (reply.Nodes m nodes) is = nodes_again m nodes is.0 is.1
 spelled_reply-again (reply.Count m) is = count_again m is
+spelled_reply-again (reply.Done k values) is = done_again k values is.0 is.1
 spelled_reply-again reply.NoRoot is = refl
 spelled_reply-again reply.NoDeep is = refl
+spelled_reply-again reply.NoScript is = refl
 spelled_reply-again reply.NoExists is = refl
 spelled_reply-again reply.NoAbsent is = refl
 spelled_reply-again reply.NoMismatch is = refl
 spelled_reply-again (reply.NoWhile p) is = while_again p is
+spelled_reply-again reply.NoName is = refl
+spelled_reply-again reply.NoSpent is = refl
+spelled_reply-again (reply.NoAbort b) is = abort_again b is
 spelled_reply-again reply.NoFull is = refl
 
 -- ---- what stands in a `#` line
@@ -183,6 +199,8 @@ older_command (Delmany parts) = refl
 older_command (Get p) = refl
 older_command (Many parts limit) = refl
 older_command (Count parts) = refl
+older_command (Tx args s) = refl
+older_command (Run p args) = refl
 
 pub spelled_entry-takes : (l : ℕ) (text : List ℕ) (x : EntryText) → spelled_entry l text ≡ Some x → (text ≡ entry_text x) × IsEntryText l x
 unfolding spelled_entry

@@ -17,10 +17,19 @@ use Rattle.khepri_types.specs.Watching.{set_watched}
 use Rattle.khepri_types.proofs.After.{met}
 use Rattle.khepri_types.proofs.Failing.{stable-all}
 use Rattle.khepri_types.proofs.Rounds.{settle-ends, settle-tree}
-use Rattle.khepri_types.proofs.Standing.{get-opening, tree-drop}
-use Rattle.khepri_types.proofs.Watched.{tree-set_watched}
+use Rattle.khepri_types.specs.declared.watch.Watching.TheVariants.{While}
+use Rattle.khepri_types.proofs.Running.{IsKeptByChanges, script_tree}
+use Rattle.khepri_types.proofs.Standing.{get-opening, not_root, tree-set, tree-drop}
+use Rattle.khepri_types.proofs.Watched.{tree-watch, tree-set_watched}
 
 -- ---- a tree stays one
+
+tree_by_changes : IsKeptByChanges IsTree
+tree_by_changes = record {
+  sets = λ T p x place tree. tree-set T p x tree;
+  drops = λ T n p tree. tree-drop T ((n ∷ p) ∷ []) (not_root n p) tree;
+  gives = λ T p watches tree. tree-watch T p (While watches) tree;
+}
 
 pub tree-after : (S : State) (c : Command) → IsTree S.tree → IsTree (exec_command S c).1.tree
 tree-after S c tree = met (λ y. IsTree y.1.tree) S c (record {
@@ -31,6 +40,9 @@ tree-after S c tree = met (λ y. IsTree y.1.tree) S c (record {
   counts = λ parts. tree;
   sets = λ p x w may place fit. settle-tree (set_watched S.tree p x w) (tree-set_watched S.tree p x w tree);
   drops = λ paths apart fit. settle-tree (drop S.tree paths) (tree-drop S.tree paths apart tree);
+  runs = λ args s r may e fit. settle-tree r.scene.tree (script_tree IsTree tree_by_changes s args [] S.tree r tree e);
+  stops = λ args s r stop may e. tree;
+  fails = λ args s r u may e is. tree;
 })
 
 pub tree-run : (es : List EntryText) (S : State) → IsTree S.tree → IsTree (run_from S es).tree
@@ -58,6 +70,9 @@ stable-after S c h = met (λ y. IsTrue (stable y.1.tree)) S c (record {
   counts = λ parts. h;
   sets = λ p x w may place fit. settle-ends (set_watched S.tree p x w);
   drops = λ paths apart fit. settle-ends (drop S.tree paths);
+  runs = λ args s r may e fit. settle-ends r.scene.tree;
+  stops = λ args s r stop may e. h;
+  fails = λ args s r u may e is. h;
 })
 
 pub stable-entry : (S : State) (e : EntryText) → IsTrue (stable S.tree) → IsTrue (stable (state_of S e).tree)

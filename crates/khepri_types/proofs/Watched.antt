@@ -46,13 +46,26 @@ tree-given : (T : Tree) (p : List NameText) (watches : List Watch) (o : Option N
 tree-given T p watches None e tree = tree
 tree-given T p watches (Some m) e tree = tree-insert T p (record m { watches = watches }) tree (λ i less. tree.fronts p i (omega (arith, less)) (ap is_some e))
 
-tree-watch : (T : Tree) (p : List NameText) (w : Watching) → IsTree T → IsTree (watch T p w)
+pub tree-watch : (T : Tree) (p : List NameText) (w : Watching) → IsTree T → IsTree (watch T p w)
 tree-watch T p Stay tree = tree
 tree-watch T p Free tree = tree-given T p [] (get T p) refl tree
 tree-watch T p (While watches) tree = tree-given T p watches (get T p) refl tree
 
 pub tree-set_watched : (T : Tree) (p : List NameText) (x : Payload) (w : Watching) → IsTree T → IsTree (set_watched T p x w)
 tree-set_watched T p x w tree = tree-watch (set T p x) p w (tree-set T p x tree)
+
+-- it stands where it stood
+stood-given : (T : Tree) (p : List NameText) (watches : List Watch) (o : Option Node) → get T p ≡ o → (q : List NameText) → IsTrue (stands (given_watches T p watches o) q) → IsTrue (stands T q)
+stood-given T p watches None e q h = h
+stood-given T p watches (Some m) e q h = elim (same_or_apart q p) as (λ _. IsTrue (stands T q)) [
+  | inl same ↦ subst (λ (r : List NameText). IsTrue (stands T r)) (sym same) (ap is_some e)
+  | inr apart ↦ ap is_some (sym (get-other T p (record m { watches = watches }) q apart)) ∙ h
+]
+
+pub stood-watch : (T : Tree) (p : List NameText) (w : Watching) (q : List NameText) → IsTrue (stands (watch T p w) q) → IsTrue (stands T q)
+stood-watch T p Stay q h = h
+stood-watch T p Free q h = stood-given T p [] (get T p) refl q h
+stood-watch T p (While watches) q h = stood-given T p watches (get T p) refl q h
 
 -- ---- its size
 
@@ -69,12 +82,12 @@ len-given : (T : Tree) (p : List NameText) (watches : List Watch) (o : Option No
 len-given T p watches None e = refl
 len-given T p watches (Some m) e = len-standing T p (record m { watches = watches }) m e
 
-len-watch : (T : Tree) (p : List NameText) (w : Watching) → len (watch T p w) ≡ len T
+pub len-watch : (T : Tree) (p : List NameText) (w : Watching) → len (watch T p w) ≡ len T
 len-watch T p Stay = refl
 len-watch T p Free = len-given T p [] (get T p) refl
 len-watch T p (While watches) = len-given T p watches (get T p) refl
 
-len-set_from : (n i : ℕ) (T : Tree) (p : List NameText) (x : Payload) → len (set_from n i T p x) ≤ len T + n + 1
+pub len-set_from : (n i : ℕ) (T : Tree) (p : List NameText) (x : Payload) → len (set_from n i T p x) ≤ len T + n + 1
 len-set_from zero i T p x = omega (arith, ap len (set_from-end i T p x), len-insert-le T p (end_node (get T p) x))
 len-set_from (suc n) i T p x =
     omega (arith, ap len (set_from-more n i T p x), len-set_from n (i + 1) (passed T p i) p x, len-insert-le T (take i p) (way_node (get T (take i p)) (stands T (take (i + 1) p))))

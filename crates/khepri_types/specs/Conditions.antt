@@ -10,7 +10,7 @@ use Rattle.khepri_terms.specs.declared.rec.Field.{Field}
 use Rattle.khepri_types.specs.declared.compare.Compare.{Compare}
 use Rattle.khepri_types.specs.declared.node.Node.{Node}
 use Rattle.khepri_types.specs.declared.node.Payload.{Payload}
-use Rattle.khepri_types.specs.declared.node.Payload.TheVariants.{Empty, Fields}
+use Rattle.khepri_types.specs.declared.node.Payload.TheVariants.{Empty, Fields, Proc}
 use Rattle.khepri_types.specs.declared.condition.Condition.{Condition}
 use Rattle.khepri_types.specs.declared.condition.Condition.TheFolds.{fold-Condition}
 use Rattle.khepri_types.specs.declared.condition.Condition.TheOpen.{Condition-F}
@@ -41,14 +41,17 @@ is_absent (Some s) = false
 abbrev pub is_payload : Payload → Bool
 is_payload Empty = false
 is_payload (Fields r) = true
+is_payload (Proc s) = true
 
 abbrev pub is_data : Payload → Bool
 is_data Empty = false
 is_data (Fields r) = true
+is_data (Proc s) = false
 
 abbrev pub is_script : Payload → Bool
 is_script Empty = false
 is_script (Fields r) = false
+is_script (Proc s) = true
 
 -- the name of a node fits; the root has no name
 abbrev pub is_named : Glob → Option NameText → Bool
@@ -59,6 +62,7 @@ is_named g (Some n) = fits_name g n
 abbrev pub is_equal : List Field → Payload → Bool
 is_equal r Empty = false
 is_equal r (Fields s) = rec_eq r s
+is_equal r (Proc s) = false
 
 -- a field that is there compares so to the scalar
 abbrev pub compares_field : Compare → Scalar → Option Scalar → Bool
@@ -69,6 +73,7 @@ compares_field op x (Some y) = compares op (scalar_cmp y x)
 abbrev pub has_field : List ℕ → Compare → Scalar → Payload → Bool
 has_field key op x Empty = false
 has_field key op x (Fields r) = compares_field op x (field_of key r)
+has_field key op x (Proc s) = false
 
 -- the number compares so to the other
 abbrev pub compares_number : Compare → ℕ → ℕ → Bool

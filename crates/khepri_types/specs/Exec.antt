@@ -1,13 +1,14 @@
 -- What a state is, and what an entry does to it.
-use Rattle.std.specs.Prelude.{ℕ, ◌+◌, ◌-◌, ◌||◌, if◌then◌else◌, List, [], ◌∷◌, length, take, map, Option, Some, None}
+use Rattle.std.specs.Prelude.{◌≡◌, ℕ, ◌+◌, ◌-◌, Bool, true, ◌||◌, if◌then◌else◌, List, [], ◌∷◌, length, take, map, Option, Some, None}
 use Rattle.std.specs.FinMap.{get, len}
 use Rattle.khepri_terms.specs.Terms.{NameText}
+use Rattle.khepri_terms.specs.declared.rec.Field.{Field}
 use Rattle.khepri_terms.specs.declared.scalar.Scalar.{Scalar}
 use Rattle.khepri_types.specs.declared.node.Node.{Node}
 use Rattle.khepri_types.specs.declared.node.Payload.{Payload}
-use Rattle.khepri_types.specs.declared.node.Payload.TheVariants.{Empty}
+use Rattle.khepri_types.specs.declared.node.Payload.TheVariants.{Empty, Fields, Proc}
 use Rattle.khepri_types.specs.declared.command.Command.{Command}
-use Rattle.khepri_types.specs.declared.command.Command.TheVariants.{Put, Create, Update, Cas, Clear, Del, Delmany, Get, Many, Count}
+use Rattle.khepri_types.specs.declared.command.Command.TheVariants.{Put, Create, Update, Cas, Clear, Del, Delmany, Get, Many, Count, Tx, Run}
 use Rattle.khepri_types.specs.declared.command.Entry.{Entry}
 use Rattle.khepri_types.specs.declared.command.Entry.TheVariants as entry
 use Rattle.khepri_types.specs.declared.reply.Reply.{Reply}
@@ -18,6 +19,10 @@ use Rattle.khepri_types.specs.declared.out.Rows.{Rows}
 use Rattle.khepri_types.specs.declared.out.Rows.TheVariants.{Absent}
 use Rattle.khepri_types.specs.declared.pattern.PatternPart.{PatternPart}
 use Rattle.khepri_types.specs.declared.shown.ShownNode.{ShownNode}
+use Rattle.khepri_types.specs.declared.script.Statement.{Statement}
+use Rattle.khepri_types.specs.declared.value.Stop.{Stop}
+use Rattle.khepri_types.specs.declared.value.Stop.TheVariants.{Abort, Spent, Refused}
+use Rattle.khepri_types.specs.declared.value.Value.{Value}
 use Rattle.khepri_types.specs.declared.watch.Watch.{Watch}
 use Rattle.khepri_types.specs.declared.watch.Watching.{Watching}
 use Rattle.khepri_types.specs.declared.watch.Watching.TheVariants.{Stay}
@@ -28,6 +33,9 @@ use Rattle.khepri_types.specs.Settling.{settle, gone}
 use Rattle.khepri_types.specs.Watching.{set_watched, is_deep, gives_root_watches, has_deep_target, unmet_of}
 use Rattle.khepri_types.specs.Drop.{drop}
 use Rattle.khepri_types.specs.Sizes.{kids, fits}
+use Rattle.khepri_types.specs.Statements.{Flow, Goes, Stops, script, no_of}
+use Rattle.khepri_types.specs.Transactions.{unmet_among}
+use Rattle.khepri_types.specs.Typing.{well_typed}
 
 -- the tree, and how many entries were applied
 pub record State : Type 0 where
@@ -81,6 +89,16 @@ write S p x w = finish_write S p (set_watched S.tree p x w)
 abbrev pub if_writable : State → List NameText → Watching → Reply × State → Reply × State
 if_writable S p w next = if gives_root_watches p w then refused S reply.NoRoot else (if is_deep p || has_deep_target w then refused S reply.NoDeep else next)
 
+-- whether a payload may be set: a script only where it is well typed
+abbrev pub is_checked : Payload → Bool
+is_checked Empty = true
+is_checked (Fields r) = true
+is_checked (Proc s) = well_typed s
+
+-- a command that sets this payload goes on so, unless it is an ill-typed script
+abbrev pub if_checked : State → Payload → Reply × State → Reply × State
+if_checked S x next = if is_checked x then next else refused S reply.NoScript
+
 -- the nodes at these paths and all below them are dropped in one round; the reply has their number
 abbrev pub dropped : State → List (List NameText) → Reply × State
 dropped S paths = settle_within_limits S (drop S.tree paths) (len S.tree - len (drop S.tree paths))
@@ -108,18 +126,57 @@ shown_node T e = record { path = e.0; pv = e.1.pv; cv = e.1.cv; kids = kids T e.
 abbrev pub listed : Tree → List PatternPart → ℕ → Reply
 listed T parts limit = reply.Nodes (length (matching parts T)) (map (shown_node T) (take limit (matching_nodes parts T)))
 
+-- what answers a script that ended before its last statement had
+abbrev pub stop_of : Stop → Reply
+stop_of (Abort text) = reply.NoAbort text
+stop_of Spent = reply.NoSpent
+stop_of (Refused why) = no_of why
+
+-- a script made this tree and emitted these values: the tree settles, unless there is a watch of a written node that isn't met
+-- before that, or what is left would pass a limit
+abbrev pub done_unless : Option Watch → State → Tree → List Value → Reply × State
+done_unless None S T values = changed S (settle T) (reply.Done (gone T) values)
+done_unless (Some w) S T values = refused S (reply.NoWhile w.target)
+
+-- a script came to its end, or ended before it: then the tree is as it was
+abbrev pub ended : State → Flow → Reply × State
+ended S (Goes r) = done_unless (unmet_among r.scene.tree r.scene.written) S r.scene.tree r.values
+ended S (Stops r stop) = refused S (stop_of stop)
+
+-- a script runs with these arguments and this path, unless it is ill typed
+abbrev pub run_script : State → List Field → List NameText → List Statement → Reply × State
+run_script S args at s = if well_typed s then ended S (script s args at S.tree) else refused S reply.NoScript
+
+-- the script that a payload is runs so
+abbrev pub run_payload : State → List Field → List NameText → Payload → Reply × State
+run_payload S args at Empty = refused S reply.NoScript
+run_payload S args at (Fields r) = refused S reply.NoScript
+run_payload S args at (Proc s) = run_script S args at s
+
+-- the script of a node runs so
+abbrev pub run_node : State → List Field → List NameText → Option Node → Reply × State
+run_node S args at None = refused S reply.NoAbsent
+run_node S args at (Some n) = run_payload S args at n.payload
+
 -- a command's reply and the next state
 abbrev pub exec_command : State → Command → Reply × State
-exec_command S (Put p x w) = if_writable S p w (write S p x w)
-exec_command S (Create p x w) = if_writable S p w (if stands S.tree p then refused S reply.NoExists else write S p x w)
-exec_command S (Update p x w) = if_writable S p w (if stands S.tree p then write S p x w else refused S reply.NoAbsent)
-exec_command S (Cas p c x w) = if_writable S p w (if holds_at c S.tree p then write S p x w else refused S reply.NoMismatch)
+exec_command S (Put p x w) = if_writable S p w (if_checked S x (write S p x w))
+exec_command S (Create p x w) = if_writable S p w (if_checked S x (if stands S.tree p then refused S reply.NoExists else write S p x w))
+exec_command S (Update p x w) = if_writable S p w (if_checked S x (if stands S.tree p then write S p x w else refused S reply.NoAbsent))
+exec_command S (Cas p c x w) = if_writable S p w (if_checked S x (if holds_at c S.tree p then write S p x w else refused S reply.NoMismatch))
 exec_command S (Clear p) = if stands S.tree p then write S p Empty Stay else refused S reply.NoAbsent
 exec_command S (Del p) = delete S p
 exec_command S (Delmany parts) = delete_all S parts
 exec_command S (Get p) = (shown S.tree p (get S.tree p), passed_over S)
 exec_command S (Many parts limit) = (listed S.tree parts limit, passed_over S)
 exec_command S (Count parts) = (reply.Count (length (matching parts S.tree)), passed_over S)
+exec_command S (Tx args s) = run_script S args [] s
+exec_command S (Run p args) = run_node S args [] (get S.tree p)
+
+-- a reply that says nothing of a change, and is not that of a script that ran to its end
+pub record SaysNoChange (r : Reply) : Type 0 where
+  pub changed : (n k : ℕ) → r ≡ reply.Changed n k → ⊥
+  pub done : (k : ℕ) (values : List Value) → r ≡ reply.Done k values → ⊥
 
 -- what stands in the `#` line of an entry
 abbrev pub shown_entry : Entry → EntryText

@@ -67,6 +67,7 @@ text_or b None = b
 abbrev pub payload_fields : Payload → List Field
 payload_fields payload.Empty = []
 payload_fields (payload.Fields f) = f
+payload_fields (payload.Proc s) = []
 
 -- the fields of a node, `{}` where none stands or its payload is no fields
 abbrev pub fields_seen : Option Seen → List Field

@@ -1,9 +1,11 @@
 pub mod Paths
+pub mod SameScripts
 pub mod Tree
 pub mod Missing
 pub mod Drop
 pub mod Sizes
 pub mod Growth
+pub mod Transactions
 pub mod Exec
 pub mod Texts
 pub mod Ranges

@@ -12,7 +12,7 @@ use Rattle.khepri_terms.specs.Order.{name_cmp}
 use Rattle.khepri_terms.specs.Records.{field_of}
 use Rattle.khepri_types.specs.declared.node.Node.{Node}
 use Rattle.khepri_types.specs.declared.node.Payload.{Payload}
-use Rattle.khepri_types.specs.declared.node.Payload.TheVariants.{Empty, Fields}
+use Rattle.khepri_types.specs.declared.node.Payload.TheVariants.{Empty, Fields, Proc}
 use Rattle.khepri_types.specs.declared.projection.Origin.{Origin}
 use Rattle.khepri_types.specs.declared.projection.Origin.TheVariants.{Seg, Field, Version}
 use Rattle.khepri_types.specs.declared.projection.Projection.{Projection}
@@ -28,6 +28,7 @@ use Rattle.khepri_types.specs.Tree.{Tree}
 abbrev pub field_in : NameText → Payload → Option Scalar
 field_in k Empty = None
 field_in k (Fields r) = field_of k.bytes r
+field_in k (Proc s) = None
 
 -- a source of the path p and its node: the i-th name's bytes, a field, or the payload version; none where it is missing.
 -- A version past the greatest number that a scalar can be shows as that number

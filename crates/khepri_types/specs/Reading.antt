@@ -7,9 +7,9 @@ use Rattle.khepri_terms.specs.Paths.{path_at}
 use Rattle.khepri_terms.specs.declared.rec.Field.{Field}
 use Rattle.khepri_terms.specs.Records.{rec_at}
 use Rattle.khepri_types.specs.declared.node.Payload.{Payload}
-use Rattle.khepri_types.specs.declared.node.Payload.TheVariants.{Empty, Fields}
+use Rattle.khepri_types.specs.declared.node.Payload.TheVariants.{Empty, Fields, Proc}
 use Rattle.khepri_types.specs.declared.command.Command.{Command}
-use Rattle.khepri_types.specs.declared.command.Command.TheVariants.{Put, Create, Update, Cas, Clear, Del, Delmany, Get, Many, Count}
+use Rattle.khepri_types.specs.declared.command.Command.TheVariants.{Put, Create, Update, Cas, Clear, Del, Delmany, Get, Many, Count, Tx, Run}
 use Rattle.khepri_types.specs.declared.command.Line.{Line}
 use Rattle.khepri_types.specs.declared.command.Line.TheVariants as line
 use Rattle.khepri_types.specs.declared.condition.Condition.{Condition}
@@ -20,8 +20,16 @@ use Rattle.khepri_types.specs.declared.watch.Watching.{Watching}
 use Rattle.khepri_types.specs.declared.watch.Watching.TheVariants.{Stay, Free, While}
 use Rattle.khepri_types.specs.ReadingConditions.{after_byte, condition_at, pattern_at}
 use Rattle.khepri_types.specs.ReadingNumbers.{whole_number}
+use Rattle.khepri_types.specs.ReadingScripts.{script_at}
+use Rattle.khepri_types.specs.declared.script.Statement.{Statement}
 use Rattle.khepri_types.specs.Words.{after_word}
 pub use Rattle.khepri_types.specs.Words.{begins, is_word}
+
+-- the fields of a record that nothing follows
+abbrev pub whole_fields : Option (List Field × List ℕ) → Option (List Field)
+whole_fields None = None
+whole_fields (Some (r, [])) = Some r
+whole_fields (Some (r, b ∷ rest)) = None
 
 -- a record that nothing follows
 abbrev pub whole_record : Option (List Field × List ℕ) → Option Payload
@@ -29,9 +37,28 @@ whole_record None = None
 whole_record (Some (r, [])) = Some (Fields r)
 whole_record (Some (r, b ∷ rest)) = None
 
+-- a script that nothing follows
+abbrev pub whole_script : Option (List Statement × List ℕ) → Option (List Statement)
+whole_script None = None
+whole_script (Some (s, [])) = Some s
+whole_script (Some (s, b ∷ rest)) = None
+
+-- the script that the whole text spells
+unfoldable pub spelled_script : List ℕ → Option (List Statement)
+spelled_script text = whole_script (script_at text)
+
+-- a script as a payload
+abbrev pub as_script : Option (List Statement) → Option Payload
+as_script None = None
+as_script (Some s) = Some (Proc s)
+
+-- the record or the script that the whole text spells
+unfoldable pub spelled_content : List ℕ → Option Payload
+spelled_content text = if begins (codes "<") text then as_script (spelled_script text) else whole_record (rec_at text)
+
 -- the payload that the whole text spells
 unfoldable pub spelled_payload : List ℕ → Option Payload
-spelled_payload text = if is_word (codes "-") text then Some Empty else whole_record (rec_at text)
+spelled_payload text = if is_word (codes "-") text then Some Empty else spelled_content text
 
 -- the path that the whole text spells
 abbrev pub whole_path : Option (List NameText × List ℕ) → Option (List NameText)
@@ -47,9 +74,18 @@ abbrev pub fields_at : Option (List Field × List ℕ) → Option (Payload × Li
 fields_at None = None
 fields_at (Some x) = Some (Fields x.0, x.1)
 
+-- a script as a payload
+abbrev pub proc_at : Option (List Statement × List ℕ) → Option (Payload × List ℕ)
+proc_at None = None
+proc_at (Some x) = Some (Proc x.0, x.1)
+
+-- the record or the script at the front, and what is after it
+unfoldable pub content_at : List ℕ → Option (Payload × List ℕ)
+content_at text = if begins (codes "<") text then proc_at (script_at text) else fields_at (rec_at text)
+
 -- the payload at the front, and what is after it
 unfoldable pub payload_at : List ℕ → Option (Payload × List ℕ)
-payload_at text = if begins (codes "-") text then Some (Empty, drop 1 text) else fields_at (rec_at text)
+payload_at text = if begins (codes "-") text then Some (Empty, drop 1 text) else content_at text
 
 -- `PATH COND` at the front, and what is after it
 unfoldable pub asked_at : List ℕ → Option (List NameText × Condition × List ℕ)
@@ -148,7 +184,35 @@ spelled_many text = do
   limit ← limit_behind pattern.1
   Some (Many pattern.0 limit)
 
--- the command that the whole text spells, one that deletes or asks
+-- a script and its arguments, `REC SCRIPT`, as a command
+unfoldable pub spelled_tx : List ℕ → Option Command
+spelled_tx text = do
+  args ← rec_at text
+  script_text ← after_byte 32 args.1
+  script ← spelled_script script_text
+  Some (Tx args.0 script)
+
+-- the record that the whole text spells, behind a space
+unfoldable pub args_behind : List ℕ → Option (List Field)
+args_behind text = do
+  rec_text ← after_byte 32 text
+  whole_fields (rec_at rec_text)
+
+-- `PATH REC` as a command
+unfoldable pub spelled_run : List ℕ → Option Command
+spelled_run text = do
+  path ← path_at text
+  args ← args_behind path.1
+  Some (Run path.0 args)
+
+-- the command that the whole text spells, one that runs a script
+unfoldable pub running : List ℕ → Option Command
+running text =
+    if begins (codes "tx ") text then spelled_tx (drop 3 text)
+    else (if begins (codes "run ") text then spelled_run (drop 4 text)
+    else None)
+
+-- the command that the whole text spells, one that deletes, asks or runs a script
 unfoldable pub deleting_or_asking : List ℕ → Option Command
 deleting_or_asking text =
     if begins (codes "del ") text then naming Del (spelled_path (drop 4 text))
@@ -156,7 +220,7 @@ deleting_or_asking text =
     else (if begins (codes "get ") text then naming Get (spelled_path (drop 4 text))
     else (if begins (codes "many ") text then spelled_many (drop 5 text)
     else (if begins (codes "count ") text then scanning Count (spelled_pattern (drop 6 text))
-    else None))))
+    else running text))))
 
 -- the command that the whole text spells
 unfoldable pub spelled_command : List ℕ → Option Command

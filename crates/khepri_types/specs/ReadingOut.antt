@@ -2,8 +2,9 @@
 use Rattle.std.specs.Prelude.{ℕ, ◌-◌, ◌&&◌, nat_le, ◌==◌, if◌then◌else◌, List, [], ◌∷◌, length, drop, Option, Some, None, codes}
 use Rattle.khepri_terms.specs.Many.{many, ◌>>=◌}
 use Rattle.khepri_terms.specs.Terms.{NameText}
-use Rattle.khepri_terms.specs.Numbers.{number_at}
+use Rattle.khepri_terms.specs.Numbers.{number_at, int_at}
 use Rattle.khepri_terms.specs.Paths.{path_at}
+use Rattle.khepri_terms.specs.Records.{rec_at}
 use Rattle.khepri_types.specs.declared.limits.TheConstants.{MAX_NUMBER}
 use Rattle.khepri_types.specs.declared.reply.Reply.{Reply}
 use Rattle.khepri_types.specs.declared.reply.Reply.TheVariants as reply
@@ -18,8 +19,12 @@ use Rattle.khepri_types.specs.declared.out.Rows.TheVariants.{Absent}
 use Rattle.khepri_types.specs.declared.out.OutLine.{OutLine}
 use Rattle.khepri_types.specs.declared.out.OutLine.TheVariants as out
 use Rattle.khepri_types.specs.declared.shown.ShownNode.{ShownNode}
+use Rattle.khepri_types.specs.declared.value.Value.{Value}
+use Rattle.khepri_types.specs.declared.value.Value.TheVariants as value
+use Rattle.khepri_types.specs.Items.{or_read}
 use Rattle.khepri_types.specs.Reading.{begins, is_word, spelled_payload, payload_at, spelled_path, spelled_command}
 use Rattle.khepri_types.specs.ReadingConditions.{after_byte}
+use Rattle.khepri_types.specs.ReadingScripts.{read_as, quoted_at}
 unfoldable pub use Rattle.khepri_types.specs.Words.{after_word}
 pub use Rattle.khepri_types.specs.ReadingNumbers.{whole_number}
 unfoldable pub use Rattle.khepri_types.specs.ReadingNumbers.{number_before, three_before, spelled_number}
@@ -70,6 +75,50 @@ count_at text = do
   count ← spelled_number text
   Some (reply.Count count)
 
+-- the value at the front, and what is after it
+unfoldable pub value_at : List ℕ → Option (Value × List ℕ)
+value_at text =
+    or_read (read_as value.Int (int_at text))
+    (or_read (read_as value.Text (quoted_at text))
+    (or_read (read_as value.Path (path_at text))
+    (read_as value.Rec (rec_at text))))
+
+-- the value at the front behind a space, and what is after it
+unfoldable pub spaced_value_at : List ℕ → Option (Value × List ℕ)
+spaced_value_at text = do
+  rest ← after_byte 32 text
+  value_at rest
+
+-- values that nothing follows
+abbrev pub whole_values : ℕ → List Value × List ℕ → Option Reply
+whole_values k (values, []) = Some (reply.Done k values)
+whole_values k (values, b ∷ rest) = None
+
+-- `K`, and as many values as there are
+unfoldable pub done_at : List ℕ → Option Reply
+done_at text = do
+  gone ← number_at MAX_NUMBER text
+  whole_values gone.0 (many spaced_value_at (length gone.1) gone.1)
+
+-- bytes that nothing follows
+abbrev pub whole_bytes : Option (List ℕ × List ℕ) → Option Reply
+whole_bytes None = None
+whole_bytes (Some (b, [])) = Some (reply.NoAbort b)
+whole_bytes (Some (b, c ∷ rest)) = None
+
+-- the text that the whole text spells, as a refusal
+unfoldable pub abort_no : List ℕ → Option Reply
+abort_no text = whole_bytes (quoted_at text)
+
+-- the refusal of a script that the whole text spells
+unfoldable pub script_no : List ℕ → Option Reply
+script_no text =
+    if is_word (codes "no script") text then Some reply.NoScript
+    else (if is_word (codes "no name") text then Some reply.NoName
+    else (if is_word (codes "no spent") text then Some reply.NoSpent
+    else (if begins (codes "no abort ") text then abort_no (drop 9 text)
+    else None)))
+
 -- the target that the whole text spells, as a refusal
 unfoldable pub while_no : List ℕ → Option Reply
 while_no text = do
@@ -86,7 +135,7 @@ spelled_no text =
     else (if is_word (codes "no mismatch") text then Some reply.NoMismatch
     else (if is_word (codes "no full") text then Some reply.NoFull
     else (if begins (codes "no while ") text then while_no (drop 9 text)
-    else None))))))
+    else script_no text))))))
 
 -- the reply that the whole text spells
 unfoldable pub spelled_reply : List ℕ → Option Reply
@@ -95,7 +144,8 @@ spelled_reply text =
     else (if begins (codes "node ") text then node_at (drop 5 text)
     else (if begins (codes "nodes ") text then nodes_at (drop 6 text)
     else (if begins (codes "count ") text then count_at (drop 6 text)
-    else spelled_no text)))
+    else (if begins (codes "done ") text then done_at (drop 5 text)
+    else spelled_no text))))
 
 -- the command that the whole text spells, as what stands in a `#` line
 unfoldable pub command_entry : List ℕ → Option EntryText

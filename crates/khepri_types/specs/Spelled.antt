@@ -1,13 +1,15 @@
 -- What has a spelling, with the limits that the grammar sets.
-use Rattle.std.specs.Prelude.{◌≡◌, ℕ, ◌≤◌, List, length}
+use Rattle.std.specs.Prelude.{◌≡◌, ℕ, ◌^◌, ◌<◌, ◌≤◌, List, length}
 use Rattle.std.specs.List.{AllByRecursion}
+use lib.Signed.{mag}
+use Rattle.khepri_terms.specs.Bytes.{AreBytes}
 use Rattle.khepri_terms.specs.Paths.{IsPath}
 use Rattle.khepri_terms.specs.Records.{IsRec}
 use Rattle.khepri_types.specs.declared.limits.TheConstants.{MAX_WATCHES, MAX_SHOWN_NODES}
 use Rattle.khepri_types.specs.declared.node.Payload.{Payload}
-use Rattle.khepri_types.specs.declared.node.Payload.TheVariants.{Empty, Fields}
+use Rattle.khepri_types.specs.declared.node.Payload.TheVariants.{Empty, Fields, Proc}
 use Rattle.khepri_types.specs.declared.command.Command.{Command}
-use Rattle.khepri_types.specs.declared.command.Command.TheVariants.{Put, Create, Update, Cas, Clear, Del, Delmany, Get, Many, Count}
+use Rattle.khepri_types.specs.declared.command.Command.TheVariants.{Put, Create, Update, Cas, Clear, Del, Delmany, Get, Many, Count, Tx, Run}
 use Rattle.khepri_types.specs.declared.command.Line.{Line}
 use Rattle.khepri_types.specs.declared.command.Line.TheVariants as line
 use Rattle.khepri_types.specs.declared.reply.Reply.{Reply}
@@ -22,6 +24,9 @@ use Rattle.khepri_types.specs.declared.watch.Watching.{Watching}
 use Rattle.khepri_types.specs.declared.watch.Watching.TheVariants.{Stay, Free, While}
 use Rattle.khepri_types.specs.ConditionTexts.{IsCondition}
 use Rattle.khepri_types.specs.PatternTexts.{IsPattern}
+use Rattle.khepri_types.specs.ScriptTexts.{IsScript}
+use Rattle.khepri_types.specs.declared.value.Value.{Value}
+use Rattle.khepri_types.specs.declared.value.Value.TheVariants as value
 pub use Rattle.khepri_types.specs.Ranges.{IsNumber}
 
 -- a node that may be named by one digit
@@ -32,6 +37,7 @@ IsNode k = (1 ≤ k) × (k ≤ 9)
 abbrev pub IsPayload : Payload → Type 0
 IsPayload Empty = Unit {0}
 IsPayload (Fields r) = IsRec r
+IsPayload (Proc s) = IsScript s
 
 -- a watch that may be written; its target may have more names than the path of a node
 pub record IsWatch (w : Watch) : Type 0 where
@@ -62,6 +68,8 @@ IsCommand (Delmany parts) = IsPattern parts
 IsCommand (Get p) = IsPath p
 IsCommand (Many parts limit) = IsPattern parts × (1 ≤ limit) × (limit ≤ MAX_SHOWN_NODES)
 IsCommand (Count parts) = IsPattern parts
+IsCommand (Tx args s) = IsRec args × IsScript s
+IsCommand (Run p args) = IsPath p × IsRec args
 
 -- an input line that may be written
 abbrev pub IsLine : Line → Type 0
@@ -75,18 +83,30 @@ pub record IsShownNode (s : ShownNode) : Type 0 where
   pub kids : IsNumber s.kids
   pub payload : IsPayload s.payload
 
--- a reply that may be written; it may list any number of nodes
+-- a value that may be written: its text has no limit
+abbrev pub IsValue : Value → Type 0
+IsValue (value.Int z) = mag z < 2 ^ 63
+IsValue (value.Text b) = AreBytes b
+IsValue (value.Path p) = IsPath p
+IsValue (value.Rec f) = IsRec f
+
+-- a reply that may be written; it may list any number of nodes, and of values
 abbrev pub IsReply : Reply → Type 0
 IsReply (reply.Changed n k) = IsNumber n × IsNumber k
 IsReply (reply.Node pv cv kids x) = IsNumber pv × IsNumber cv × IsNumber kids × IsPayload x
 IsReply (reply.Nodes m nodes) = IsNumber m × AllByRecursion IsShownNode nodes
 IsReply (reply.Count m) = IsNumber m
+IsReply (reply.Done k values) = IsNumber k × AllByRecursion IsValue values
 IsReply reply.NoRoot = Unit {0}
 IsReply reply.NoDeep = Unit {0}
+IsReply reply.NoScript = Unit {0}
 IsReply reply.NoExists = Unit {0}
 IsReply reply.NoAbsent = Unit {0}
 IsReply reply.NoMismatch = Unit {0}
 IsReply (reply.NoWhile p) = IsPath p
+IsReply reply.NoName = Unit {0}
+IsReply reply.NoSpent = Unit {0}
+IsReply (reply.NoAbort b) = AreBytes b
 IsReply reply.NoFull = Unit {0}
 
 -- what may stand in the `#` line of input line l: a command; where l is 0 also a fire or a noop

@@ -13,6 +13,8 @@ use Rattle.khepri_types.specs.Watching.{is_deep}
 use Rattle.khepri_types.specs.declared.limits.TheConstants.{MAX_UNITS, MAX_EMITTED}
 use Rattle.khepri_types.specs.declared.register.Register.{Register}
 use Rattle.khepri_types.specs.declared.register.Registers.{Registers}
+use Rattle.khepri_types.specs.declared.reply.Reply.{Reply}
+use Rattle.khepri_types.specs.declared.reply.Reply.TheVariants as reply
 use Rattle.khepri_types.specs.declared.script.Expr.{Expr}
 use Rattle.khepri_types.specs.declared.script.Statement.{Statement}
 use Rattle.khepri_types.specs.declared.script.Statement.TheFolds.{fold-Statement}
@@ -21,7 +23,7 @@ use Rattle.khepri_types.specs.declared.value.Operand.{Operand}
 use Rattle.khepri_types.specs.declared.value.Operand.TheVariants as operand
 use Rattle.khepri_types.specs.declared.value.Value.{Value}
 use Rattle.khepri_types.specs.declared.value.Refusal.{Refusal}
-use Rattle.khepri_types.specs.declared.value.Refusal.TheVariants.{Root, Deep, Absent, Full}
+use Rattle.khepri_types.specs.declared.value.Refusal.TheVariants.{Root, Deep, Absent, Full, Name}
 use Rattle.khepri_types.specs.declared.value.Stop.{Stop}
 use Rattle.khepri_types.specs.declared.value.Stop.TheVariants.{Abort, Spent, Refused}
 use Rattle.khepri_types.specs.declared.value.Outcome.{Outcome}
@@ -157,11 +159,19 @@ begin args at T = record { registers = opening args at; scene = record { tree = 
 abbrev pub script : List Statement → List Field → List NameText → Tree → Flow
 script s args at T = block s (begin args at T)
 
+-- what answers a refusal inside a script
+abbrev pub no_of : Refusal → Reply
+no_of Root = reply.NoRoot
+no_of Deep = reply.NoDeep
+no_of Absent = reply.NoAbsent
+no_of Full = reply.NoFull
+no_of Name = reply.NoName
+
 -- how it ended
 abbrev pub stopped : Stop → Outcome
 stopped (Abort text) = outcome.Abort text
 stopped Spent = outcome.Spent
-stopped (Refused why) = outcome.Refused why
+stopped (Refused why) = outcome.Refused (no_of why)
 
 abbrev pub outcome_of : Flow → Outcome
 outcome_of (Goes r) = outcome.Done r.values

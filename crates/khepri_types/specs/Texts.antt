@@ -1,15 +1,15 @@
 -- The one spelling of commands, replies and output lines.
 use Rattle.std.specs.Prelude.{ℕ, List, [], ◌∷◌, ◌++◌, codes}
 use Rattle.std.specs.List.{flat_map}
-use Rattle.std.specs.Fmt.{decimal}
+use Rattle.std.specs.Fmt.{decimal, signed_decimal}
 use Rattle.khepri_terms.specs.Terms.{NameText}
 use Rattle.khepri_terms.specs.Names.{comp_text}
 use Rattle.khepri_terms.specs.Paths.{path_text}
 use Rattle.khepri_terms.specs.Records.{rec_text}
 use Rattle.khepri_types.specs.declared.node.Payload.{Payload}
-use Rattle.khepri_types.specs.declared.node.Payload.TheVariants.{Empty, Fields}
+use Rattle.khepri_types.specs.declared.node.Payload.TheVariants.{Empty, Fields, Proc}
 use Rattle.khepri_types.specs.declared.command.Command.{Command}
-use Rattle.khepri_types.specs.declared.command.Command.TheVariants.{Put, Create, Update, Cas, Clear, Del, Delmany, Get, Many, Count}
+use Rattle.khepri_types.specs.declared.command.Command.TheVariants.{Put, Create, Update, Cas, Clear, Del, Delmany, Get, Many, Count, Tx, Run}
 use Rattle.khepri_types.specs.declared.command.Line.{Line}
 use Rattle.khepri_types.specs.declared.command.Line.TheVariants as line
 use Rattle.khepri_types.specs.declared.reply.Reply.{Reply}
@@ -30,11 +30,15 @@ use Rattle.khepri_types.specs.declared.watch.Watching.TheVariants.{Stay, Free, W
 use Rattle.khepri_types.specs.declared.shown.ShownNode.{ShownNode}
 use Rattle.khepri_types.specs.ConditionTexts.{condition_text}
 use Rattle.khepri_types.specs.PatternTexts.{pattern_text}
+use Rattle.khepri_types.specs.ScriptTexts.{quoted, script_text}
+use Rattle.khepri_types.specs.declared.value.Value.{Value}
+use Rattle.khepri_types.specs.declared.value.Value.TheVariants as value
 
--- `-`, or a record
+-- `-`, a record, or a script
 unfoldable pub payload_text : Payload → List ℕ
 payload_text Empty = 45 ∷ []
 payload_text (Fields r) = rec_text r
+payload_text (Proc s) = script_text s
 
 -- ` while PATH COND`
 unfoldable pub watch_text : Watch → List ℕ
@@ -62,6 +66,8 @@ command_text (Delmany parts) = codes "delmany " ++ pattern_text parts
 command_text (Get p) = codes "get " ++ path_text p
 command_text (Many parts limit) = codes "many " ++ pattern_text parts ++ 32 ∷ decimal limit
 command_text (Count parts) = codes "count " ++ pattern_text parts
+command_text (Tx args s) = codes "tx " ++ rec_text args ++ 32 ∷ script_text s
+command_text (Run p args) = codes "run " ++ path_text p ++ 32 ∷ rec_text args
 
 -- `@k COMMAND`
 unfoldable pub line_text : Line → List ℕ
@@ -77,18 +83,35 @@ last_text (n ∷ m ∷ p) = last_text (m ∷ p)
 unfoldable pub shown_text : ShownNode → List ℕ
 shown_text s = 32 ∷ path_text s.path ++ 32 ∷ decimal s.pv ++ 32 ∷ decimal s.cv ++ 32 ∷ decimal s.kids ++ 32 ∷ payload_text s.payload
 
--- `ok N K`, `node PV CV KIDS PAYLOAD`, `nodes M` and the nodes, `count M`, or `no` and the word of a refusal, and the target where it is `while`
+-- an integer, `'` and bytes, a path, or a record
+unfoldable pub value_text : Value → List ℕ
+value_text (value.Int z) = signed_decimal z
+value_text (value.Text b) = quoted b
+value_text (value.Path p) = path_text p
+value_text (value.Rec f) = rec_text f
+
+-- a value behind a space
+abbrev pub spaced_value_text : Value → List ℕ
+spaced_value_text v = 32 ∷ value_text v
+
+-- `ok N K`, `node PV CV KIDS PAYLOAD`, `nodes M` and the nodes, `count M`, `done K` and the values, or `no` and the word of a refusal,
+-- with the target where it is `while`, and the text where it is `abort`
 unfoldable pub reply_text : Reply → List ℕ
 reply_text (reply.Changed n k) = codes "ok " ++ decimal n ++ 32 ∷ decimal k
 reply_text (reply.Node pv cv kids x) = codes "node " ++ decimal pv ++ 32 ∷ decimal cv ++ 32 ∷ decimal kids ++ 32 ∷ payload_text x
 reply_text (reply.Nodes m nodes) = codes "nodes " ++ decimal m ++ flat_map shown_text nodes
 reply_text (reply.Count m) = codes "count " ++ decimal m
+reply_text (reply.Done k values) = codes "done " ++ decimal k ++ flat_map spaced_value_text values
 reply_text reply.NoRoot = codes "no root"
 reply_text reply.NoDeep = codes "no deep"
+reply_text reply.NoScript = codes "no script"
 reply_text reply.NoExists = codes "no exists"
 reply_text reply.NoAbsent = codes "no absent"
 reply_text reply.NoMismatch = codes "no mismatch"
 reply_text (reply.NoWhile p) = codes "no while " ++ path_text p
+reply_text reply.NoName = codes "no name"
+reply_text reply.NoSpent = codes "no spent"
+reply_text (reply.NoAbort b) = codes "no abort " ++ quoted b
 reply_text reply.NoFull = codes "no full"
 
 -- a command, `fire s` or `noop`

@@ -5,7 +5,8 @@ use Rattle.khepri_terms.specs.Terms.{NameText}
 use Rattle.khepri_terms.specs.Order.{path_cmp, rec_eq}
 use Rattle.khepri_types.specs.declared.node.Node.{Node}
 use Rattle.khepri_types.specs.declared.node.Payload.{Payload}
-use Rattle.khepri_types.specs.declared.node.Payload.TheVariants.{Empty, Fields}
+use Rattle.khepri_types.specs.declared.node.Payload.TheVariants.{Empty, Fields, Proc}
+use Rattle.khepri_types.specs.SameScripts.{same_script}
 
 -- a finite map from paths to nodes
 abbrev pub Tree : Type 0
@@ -24,8 +25,13 @@ pub record IsTree (T : Tree) : Type 0 where
 abbrev pub same_payload : Payload → Payload → Bool
 same_payload Empty Empty = true
 same_payload Empty (Fields b) = false
+same_payload Empty (Proc t) = false
 same_payload (Fields a) Empty = false
 same_payload (Fields a) (Fields b) = rec_eq a b
+same_payload (Fields a) (Proc t) = false
+same_payload (Proc s) Empty = false
+same_payload (Proc s) (Fields b) = false
+same_payload (Proc s) (Proc t) = same_script s t
 
 -- a version goes up by one, and stays at the end of its type
 abbrev pub raised : ℕ → ℕ

@@ -2,8 +2,9 @@
 use crate::condition::Condition;
 use crate::node::Payload;
 use crate::pattern::Pattern;
+use crate::script::Script;
 use crate::watch::Watching;
-use khepri_terms::Path;
+use khepri_terms::{Path, Rec};
 
 /// What a client asks of the tree.
 #[derive(Drop)]
@@ -57,6 +58,16 @@ pub enum Command {
     /// Asks how many nodes a pattern matches.
     Count {
         pattern: Pattern,
+    },
+    /// Runs a script with these arguments: all of its changes come about, or none.
+    Tx {
+        args: Rec,
+        script: Script,
+    },
+    /// Runs the script that the node at a path holds, with these arguments.
+    Run {
+        path: Path,
+        args: Rec,
     },
 }
 

@@ -138,6 +138,7 @@ fn has_payload(seen: Option<&NodeView>) -> bool
         Some(node) => match node.payload {
             Payload::Empty => false,
             Payload::Fields(_) => true,
+            Payload::Proc(_) => true,
         },
         None => false,
     }
@@ -151,6 +152,7 @@ fn has_data(seen: Option<&NodeView>) -> bool
         Some(node) => match node.payload {
             Payload::Empty => false,
             Payload::Fields(_) => true,
+            Payload::Proc(_) => false,
         },
         None => false,
     }
@@ -164,6 +166,7 @@ fn has_script(seen: Option<&NodeView>) -> bool
         Some(node) => match node.payload {
             Payload::Empty => false,
             Payload::Fields(_) => false,
+            Payload::Proc(_) => true,
         },
         None => false,
     }
@@ -190,6 +193,7 @@ fn is_equal(seen: Option<&NodeView>, rec: &Rec) -> bool
         Some(node) => match node.payload {
             Payload::Empty => false,
             Payload::Fields(fields) => rec == fields,
+            Payload::Proc(_) => false,
         },
         None => false,
     }
@@ -206,6 +210,7 @@ fn has_field(seen: Option<&NodeView>, key: &[u8], op: Compare, value: &Scalar) -
                 Some(found) => op.holds(found.cmp(value)),
                 None => false, // also for `ne`
             },
+            Payload::Proc(_) => false,
         },
         None => false,
     }

@@ -4,14 +4,13 @@ ghost use Rattle.std.specs.Option.{option_map};
 ghost use Rattle.std.specs.FinMap.{get, insert, entries, find, is_sorted};
 ghost use Rattle.khepri_terms.specs.Terms.{NameText};
 ghost use Rattle.khepri_terms.specs.Order.{path_cmp};
-ghost use Rattle.khepri_types.specs.declared.limits.TheConstants.{MAX_INPUT_BYTES, MAX_PATH_NAMES};
+ghost use Rattle.khepri_types.specs.declared.limits.TheConstants.{MAX_INPUT_BYTES, MAX_PATH_NAMES, MAX_VERSION_RISE};
 ghost use Rattle.khepri_types.specs.declared.command.Command.{Command};
 ghost use Rattle.khepri_types.specs.declared.command.Line.{Line};
 ghost use Rattle.khepri_types.specs.declared.node.Node.{Node};
 ghost use Rattle.khepri_types.specs.declared.node.Payload.{Payload};
 ghost use Rattle.khepri_types.specs.declared.node.Payload.TheVariants.{Empty};
 ghost use Rattle.khepri_types.specs.declared.pattern.PatternPart.{PatternPart};
-ghost use Rattle.khepri_types.specs.declared.reply.Reply.TheVariants as reply;
 ghost use Rattle.khepri_types.specs.declared.out.EntryText.{EntryText};
 ghost use Rattle.khepri_types.specs.declared.out.Reason.{Reason};
 ghost use Rattle.khepri_types.specs.declared.out.OutLine.TheVariants as out;
@@ -20,7 +19,7 @@ ghost use Rattle.khepri_types.specs.Missing.{IsLongestFront};
 ghost use Rattle.khepri_types.specs.Drop.{loses_child, drop};
 ghost use Rattle.khepri_types.specs.Patterns.{matches, matching_nodes};
 ghost use Rattle.khepri_types.specs.Sizes.{fits};
-ghost use Rattle.khepri_types.specs.Exec.{State, opening_state, passed_over, exec_command};
+ghost use Rattle.khepri_types.specs.Exec.{State, opening_state, passed_over, exec_command, SaysNoChange};
 ghost use Rattle.khepri_types.specs.Calm.{answer, calm};
 ghost use Rattle.khepri_types.specs.History.{empty_opening, run_from};
 ghost use Rattle.khepri_types.specs.Legal.{Legal};
@@ -96,17 +95,18 @@ pub fn positions_rise()
     ensures history { (es : List EntryText) → (run_from opening_state es).position ≡ length es }
 {}
 
-/// After n entries each payload version is from 1 to 1 + n, and each child-list version from 1 to 1 + 34 n: it rises by one where a
-/// child is made, and by one with each round that takes nodes away, and an entry makes at most 32 nodes.
+/// After n entries both versions of a node are from 1 to 1 + 1,048,576 n: a script changes the tree at most once with each of its units,
+/// and makes at most 32 nodes with each; then there are fewer rounds of settling than nodes, and each raises a version by at most one.
 pub fn versions_are_small()
-    ensures payload { (es : List EntryText) (p : List NameText) (n : Node) → get (run_from opening_state es).tree p ≡ Some n → (1 ≤ n.pv) × (n.pv ≤ 1 + length es) }
-    ensures children { (es : List EntryText) (p : List NameText) (n : Node) → get (run_from opening_state es).tree p ≡ Some n → (1 ≤ n.cv) × (n.cv ≤ 1 + 34 * length es) }
+    ensures payload { (es : List EntryText) (p : List NameText) (n : Node) → get (run_from opening_state es).tree p ≡ Some n → (1 ≤ n.pv) × (n.pv ≤ 1 + MAX_VERSION_RISE * length es) }
+    ensures children { (es : List EntryText) (p : List NameText) (n : Node) → get (run_from opening_state es).tree p ≡ Some n → (1 ≤ n.cv) × (n.cv ≤ 1 + MAX_VERSION_RISE * length es) }
 {}
 
-/// A refused line leaves the state as it was, and a command whose reply says nothing of a change leaves all but the position.
+/// A refused line leaves the state as it was, and a command whose reply says nothing of a change, and is not that of a script that ran
+/// to its end, leaves all but the position.
 pub fn refused_changes_nothing()
     ensures line { (l : ℕ) (S : State) (bytes : List ℕ) (k : ℕ) (r : Reason) → (answer l S bytes).0 ≡ out.Refused k r ∷ [] → (answer l S bytes).1 ≡ S }
-    ensures command { (S : State) (c : Command) → ((n k : ℕ) → (exec_command S c).0 ≡ reply.Changed n k → ⊥) → (exec_command S c).1 ≡ passed_over S }
+    ensures command { (S : State) (c : Command) → SaysNoChange (exec_command S c).0 → (exec_command S c).1 ≡ passed_over S }
 {}
 
 /// An input line is read exactly where it is a line's spelling: what is spelled is read again, and nothing else is read.

@@ -57,6 +57,9 @@ pub const MAX_REGISTERS: u8 = 8;
 /// Units that a script may spend: one for each statement, and one for each turn of `each`.
 pub const MAX_UNITS: u64 = 10_000;
 
+/// By how much an entry may raise a version, at most.
+pub const MAX_VERSION_RISE: u64 = 1_048_576;
+
 /// Values that a script may emit.
 pub const MAX_EMITTED: usize = 64;
 

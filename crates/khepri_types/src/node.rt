@@ -1,27 +1,30 @@
 // A node and its payload.
 ghost use Rattle.std.specs.Prelude.{◌≡◌, IfOk};
 
+use crate::script::Script;
 use crate::watch::Watches;
 use khepri_terms::{Path, Rec};
-use std::alloc::AllocError;
+use std::alloc::{AllocError, Global};
 
 /// What a node carries.
 #[derive(Drop)]
 pub enum Payload {
     Empty,
     Fields(Rec),
+    Proc(Script),
 }
 
 impl Payload {
     ghost use Rattle.khepri_types.specs.Tree.{same_payload};
 
     /// A copy with memory of its own.
-    pub fn copy(&self) -> Result<Payload, AllocError>
+    pub fn copy(&self, alloc: Global) -> Result<Payload, AllocError>
         ensures { IfOk result (λ p. p ≡ self.now) }
     {
         match self {
             Payload::Empty => Ok(Payload::Empty),
             Payload::Fields(rec) => Ok(Payload::Fields(rec.copy()?)),
+            Payload::Proc(script) => Ok(Payload::Proc(script.copy(alloc)?)),
         }
     }
 
@@ -33,10 +36,17 @@ impl Payload {
             Payload::Empty => match other {
                 Payload::Empty => true,
                 Payload::Fields(_) => false,
+                Payload::Proc(_) => false,
             },
             Payload::Fields(a) => match other {
                 Payload::Empty => false,
                 Payload::Fields(b) => a == b,
+                Payload::Proc(_) => false,
+            },
+            Payload::Proc(a) => match other {
+                Payload::Empty => false,
+                Payload::Fields(_) => false,
+                Payload::Proc(b) => a.is_same(b),
             },
         }
     }

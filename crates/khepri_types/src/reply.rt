@@ -1,7 +1,9 @@
 // What a command is answered.
 use crate::node::Payload;
 use crate::shown::ShownNodes;
-use khepri_terms::Path;
+use crate::value::Value;
+use khepri_terms::{Bytes, Path};
+use sqlite_items::Items;
 
 /// The answer to a command.
 #[derive(Drop)]
@@ -27,20 +29,36 @@ pub enum Reply {
     Count {
         count: u64,
     },
+    /// How many nodes settling removed when a script had run to its end, and what it emitted.
+    Done {
+        gone: u64,
+        values: Items<Value>,
+    },
     /// The root can't be removed, and has no watches.
     NoRoot,
-    /// The path, or the target of a watch, has more names than the path of a node may have.
+    /// The path, or the target of a watch, has more names than the path of a node may have, or a script makes a path that is too long.
     NoDeep,
+    /// The script is ill typed, or the node of `run` holds none.
+    NoScript,
     /// A node stands at the path.
     NoExists,
     /// No node stands at the path.
     NoAbsent,
     /// The condition doesn't hold at the path.
     NoMismatch,
-    /// The written node has a watch whose condition doesn't hold at this target after the change.
+    /// A written node has a watch whose condition doesn't hold at this target after the change and before settling; of several the
+    /// first, by the node's path and then by the watch's place.
     NoWhile {
         target: Path,
     },
-    /// A limit of the tree would be passed.
+    /// A script would add a name that is none: it has no byte, or too many.
+    NoName,
+    /// A script spent its units.
+    NoSpent,
+    /// A script ended itself, with this text.
+    NoAbort {
+        text: Bytes,
+    },
+    /// A limit of the tree would be passed, or, by a script, one of watches, values or records.
     NoFull,
 }

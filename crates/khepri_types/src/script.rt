@@ -1,6 +1,7 @@
 // What a script is made of.
 ghost use Rattle.std.specs.Prelude.{◌≡◌, IfOk};
-ghost use Rattle.khepri_types.specs.ScriptTexts.{IsScript};
+ghost use Rattle.khepri_types.specs.SameScripts.{same_script};
+ghost use Rattle.khepri_types.specs.ScriptTexts.{IsScript, script_text};
 
 use crate::compare::Compare;
 use crate::condition::Condition;
@@ -57,10 +58,11 @@ pub enum Statement {
 }
 
 /// A block of at most 256 statements and expressions, with at most 8 blocks and at most 8 expressions in one another, and of at most
-/// 8,192 bytes of text.
+/// 8,192 bytes of text. It keeps its text, so that it is compared and measured as bytes are.
 #[derive(Drop)]
 pub struct Script {
     block: Items<Statement>,
+    text: Bytes,
 }
 
 impl Model for Script {
@@ -68,7 +70,8 @@ impl Model for Script {
     ghost use Rattle.std.specs.Coded.{codes};
     ghost use Rattle.khepri_types.specs.declared.script.Statement.{Statement};
     ghost use Rattle.khepri_types.specs.contracts.script.Statement as statement;
-    ghost use Rattle.khepri_types.specs.ScriptTexts.{IsScript};
+    ghost use Rattle.std.specs.Prelude.{◌≡◌};
+    ghost use Rattle.khepri_types.specs.ScriptTexts.{IsScript, script_text};
 
     ghost Value = { List Statement };
 
@@ -76,16 +79,17 @@ impl Model for Script {
 
     ghost view = { λ s. s.block };
 
-    ghost invariant = { λ s. IsScript s.block };
+    ghost invariant = { λ s. IsScript s.block × (s.text ≡ script_text s.block) };
 }
 
 impl Script {
-    /// A script of statements that have a spelling together.
-    pub fn new(block: Items<Statement>) -> Script
-        requires { IsScript block }
+    /// A script of statements that have a spelling together, and that spelling.
+    pub fn new(block: Items<Statement>, text: Bytes) -> Script
+        requires spelled { IsScript block }
+        requires text { text ≡ script_text block }
         ensures { result ≡ block }
     {
-        Script { block }
+        Script { block, text }
     }
 
     /// The statements, from the first.
@@ -96,12 +100,29 @@ impl Script {
         self.block.as_slice()
     }
 
+    /// The spelling.
+    pub fn text(&self) -> &[u8]
+        ensures value { result.now ≡ script_text self.now }
+        ensures is { IsScript self.now }
+    {
+        self.text.as_slice()
+    }
+
+    /// Whether the other is the same.
+    #[tactic(auto, using(crate::proofs::Sameness::texts_decide))]
+    pub fn is_same(&self, other: &Script) -> bool
+        ensures { result ≡ same_script self.now other.now }
+    {
+        self.text() == other.text()
+    }
+
     /// A copy with memory of its own.
     pub fn copy(&self, alloc: Global) -> Result<Script, AllocError>
         ensures { IfOk result (λ s. s ≡ self.now) }
     {
         Ok(Script {
             block: copy_block(alloc, self.block.as_slice())?,
+            text: self.text.copy()?,
         })
     }
 }

@@ -1,7 +1,7 @@
 // The tree that a script runs on.
-ghost use Rattle.std.specs.Prelude.{◌≡◌, ◌≤◌, ◌≢◌, [], ◌∷◌, length, IfOk, OnOk, OnSome, IfSome, Some, IsTrue, List};
+ghost use Rattle.std.specs.Prelude.{◌≡◌, ◌≤◌, ◌≢◌, [], ◌∷◌, length, IfOk, OnOk, OnSome, IfSome, Some, IsTrue};
 ghost use Rattle.std.specs.FinMap.{get};
-ghost use Rattle.std.specs.Borrow.{sem, GName};
+ghost use Rattle.std.specs.Borrow.{sem};
 ghost use Rattle.khepri_terms.specs.Terms.{NameText};
 ghost use Rattle.khepri_types.specs.declared.limits.TheConstants.{MAX_PATH_NAMES};
 ghost use Rattle.khepri_types.specs.Conditions.{seen_at};
@@ -9,7 +9,7 @@ ghost use Rattle.khepri_types.specs.Exec.{pv_of};
 ghost use Rattle.khepri_types.specs.Patterns.{matching};
 ghost use Rattle.khepri_types.specs.Tree.{stands};
 ghost use Rattle.khepri_types.specs.Views.{seen_of, node_of};
-ghost use Rattle.khepri_types.specs.Scenes.{Scene, Rests, with_payload, without, with_watches};
+ghost use Rattle.khepri_types.specs.Scenes.{Scene, Under, Rests, with_payload, without, with_watches};
 
 use crate::node::Payload;
 use crate::pattern::Pattern;
@@ -24,9 +24,9 @@ pub trait ScriptTree: Drop {
     /// The tree, and the paths that were written.
     ghost scene: { Self → Scene };
 
-    /// The names of the `&mut`s that it is kept behind, none where it owns what it keeps. No call changes them, so that who lent
-    /// them finds the tree there again.
-    ghost over: { Self → List GName };
+    /// The names of the `&mut`s that it is kept behind, none where it owns what it keeps, and the tree that a draft stands on. No
+    /// call changes them, so that who lent them finds the draft there again, over the same tree.
+    ghost over: { Self → Under };
 
     /// The node at a path.
     fn node(&mut self, path: &Path) -> Option<NodeView>

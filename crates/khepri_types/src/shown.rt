@@ -28,8 +28,12 @@ pub struct ShownNodes {
 impl Model for ShownNodes {
     ghost use Rattle.std.specs.Prelude.{List};
     ghost use Rattle.khepri_types.specs.declared.shown.ShownNode.{ShownNode};
+    ghost use Rattle.khepri_types.specs.contracts.script.Statement as statement;
+    ghost use Rattle.std.specs.Coded.{codes};
 
     ghost Value = { List ShownNode };
+
+    ghost coded = { Prim.hlevel (codes, statement.the_row.coded) };
 
     ghost view = { λ n. n.items.items };
 }

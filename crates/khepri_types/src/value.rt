@@ -1,4 +1,5 @@
 // Values, and how a script ends.
+use crate::reply::Reply;
 use khepri_terms::{Bytes, Path, Rec};
 use sqlite_items::Items;
 
@@ -63,5 +64,6 @@ pub enum Outcome {
     Done(Items<Value>),
     Abort(Bytes),
     Spent,
-    Refused(Refusal),
+    /// What refuses the script answers the command that ran it.
+    Refused(Reply),
 }

@@ -1,4 +1,4 @@
-use Rattle.script_laws.proofs.ScriptSpelling.{script_takes, script_again}
+use Rattle.khepri_types.proofs.ScriptSpelling.{script_takes, script_again}
 use Rattle.script_laws.proofs.script_spelling.Goals as goal
 
 pub returns-clause-again : goal.returns-clause-again

@@ -28,7 +28,7 @@ use Rattle.khepri_types.specs.ReadingConditions.{as_key, key_at, condition_at, p
 use Rattle.khepri_types.specs.ReadingScripts.{register_of, register_at, quoted_at}
 use Rattle.khepri_types.specs.ScriptTexts.{register_text, quoted, IsRegister}
 use Rattle.khepri_types.proofs.Asking.{key_takes}
-use Rattle.script_laws.proofs.ItemLaws.{Plainly, Anything}
+use Rattle.khepri_types.proofs.ItemLaws.{Plainly, Anything}
 use Rattle.khepri_types.proofs.PatternSpelling.{condition_takes, condition_again, pattern_takes, pattern_again}
 use Rattle.khepri_types.proofs.Word.{if_read}
 

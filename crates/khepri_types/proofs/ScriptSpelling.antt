@@ -27,10 +27,10 @@ use Rattle.khepri_types.specs.ReadingConditions.{condition_at, pattern_at}
 use Rattle.khepri_types.specs.ReadingScripts.{expr_at, register_at, deed, deed_word_at, longer_word_at, statement_word_at, register_named, statement_arguments, statement_at, block_at, script_of, script_at}
 use Rattle.khepri_types.specs.ScriptTexts.{register_text, two_texts, expr_text, expr_size, block_joined, layer_statement_text, statement_text, script_text, layer_statement_size, statement_size, IsRegister, IsExpr, IsStatementLayer, IsBlock, IsScript}
 use Rattle.khepri_types.specs.ScriptWords.{deed_word_text, statement_word_text}
-use Rattle.script_laws.proofs.ExprLaws.{two_parts, three_parts, expr_spells}
-use Rattle.script_laws.proofs.ItemLaws.{Anything, Was, Spells, nothing, IsClose, uncounted_spells, ended_spells, followed_spells, behind_spells, made_is, items_spells}
-use Rattle.script_laws.proofs.LeafLaws.{comma_ends, close_ends, close_ends_pattern, condition_spells, pattern_spells, register_spells}
-use Rattle.script_laws.proofs.ScriptWordLaws.{statement_word_takes, statement_word_again}
+use Rattle.khepri_types.proofs.ExprLaws.{two_parts, three_parts, expr_spells}
+use Rattle.khepri_types.proofs.ItemLaws.{Anything, Was, Spells, nothing, IsClose, uncounted_spells, ended_spells, followed_spells, behind_spells, made_is, items_spells}
+use Rattle.khepri_types.proofs.LeafLaws.{comma_ends, close_ends, close_ends_pattern, condition_spells, pattern_spells, register_spells}
+use Rattle.khepri_types.proofs.ScriptWordLaws.{statement_word_takes, statement_word_again}
 
 -- ---- the parts of statements
 

@@ -21,7 +21,7 @@ use Rattle.khepri_types.specs.ReadingScripts.{read_as, compare_word_at, pair_wor
 use Rattle.khepri_types.specs.ScriptWords.{pair_word_text, one_word_text, expr_word_text, deed_word_text, statement_word_text}
 use Rattle.khepri_types.specs.Words.{begins}
 use Rattle.khepri_types.proofs.Asking.{compare_takes}
-use Rattle.script_laws.proofs.ItemLaws.{or_read_is}
+use Rattle.khepri_types.proofs.ItemLaws.{or_read_is}
 use Rattle.khepri_types.proofs.Word.{if_read, word_takes, after_byte-takes}
 
 pub read_as_is : {A B : Type 0} (make : A → B) (o : Option (A × List ℕ)) (x : B × List ℕ) → read_as make o ≡ Some x → (y : A × List ℕ) × (o ≡ Some y) × ((make y.0, y.1) ≡ x)

@@ -33,9 +33,9 @@ use Rattle.khepri_types.specs.ReadingConditions.{key_at, condition_at}
 use Rattle.khepri_types.specs.ReadingScripts.{read_as, expr_word_at, register_at, quoted_at, leaf_at, pair_expr, one_expr, keyed_at, arguments_at, layer_expr_at, nested_expr_at}
 use Rattle.khepri_types.specs.ScriptTexts.{register_text, quoted, two_texts, three_texts, layer_expr_text, expr_text, layer_expr_size, expr_size, IsRegister, IsExprLayer, IsExprNested}
 use Rattle.khepri_types.specs.ScriptWords.{pair_word_text, one_word_text, expr_word_text}
-use Rattle.script_laws.proofs.ItemLaws.{Anything, Was, Spells, nothing, uncounted_spells, ended_spells, followed_spells, made_is, or_read_is}
-use Rattle.script_laws.proofs.LeafLaws.{IsInt, comma_ends, close_ends, int_spells, path_spells, rec_spells, condition_spells, key_spells, quoted_spells, register_spells}
-use Rattle.script_laws.proofs.ScriptWordLaws.{read_as_is, expr_word_takes, expr_word_again}
+use Rattle.khepri_types.proofs.ItemLaws.{Anything, Was, Spells, nothing, uncounted_spells, ended_spells, followed_spells, made_is, or_read_is}
+use Rattle.khepri_types.proofs.LeafLaws.{IsInt, comma_ends, close_ends, int_spells, path_spells, rec_spells, condition_spells, key_spells, quoted_spells, register_spells}
+use Rattle.khepri_types.proofs.ScriptWordLaws.{read_as_is, expr_word_takes, expr_word_again}
 
 -- ---- forms
 
