@@ -11,11 +11,10 @@ use Rattle.std.specs.declared.cmp.Ordering.{Ordering}
 use Rattle.std.specs.Cmp.{tied_itself}
 use Rattle.std.specs.FinMap.{get, empty, get-empty, get-insert}
 use Rattle.khepri_terms.specs.Order.{path_cmp}
-use Rattle.khepri_terms.specs.OrderLaws.{rec_decides}
+use Rattle.khepri_types.proofs.Payloads.{payload_decides}
 use Rattle.khepri_terms.proofs.Cases.{some_is}
 use Rattle.khepri_types.specs.declared.node.Node.{Node}
 use Rattle.khepri_types.specs.declared.node.Payload.{Payload}
-use Rattle.khepri_types.specs.declared.node.Payload.TheVariants.{Empty, Fields}
 use Rattle.khepri_types.specs.declared.view.NodeView.{NodeView}
 use Rattle.khepri_types.specs.declared.watch.Watch.{Watch}
 use Rattle.khepri_types.specs.Conditions.{Seen, last_name, seen_node, seen_at}
@@ -36,17 +35,10 @@ use Rattle.keep_while.proofs.Gathering.{looked-enough}
 -- ---- views
 
 pub same-payload : (x y : Payload) → same_payload x y ≡ true → x ≡ y
-same-payload Empty Empty h = refl
-same-payload Empty (Fields b) h = absurd cc
-same-payload (Fields a) Empty h = absurd cc
-same-payload (Fields a) (Fields b) h = λ i. Fields ((rec_decides a b).0 h i)
+same-payload x y h = (payload_decides x y).0 h
 
 pub payload-same : (x y : Payload) → x ≡ y → same_payload x y ≡ true
-payload-same x y e = subst (λ (z : Payload). same_payload x z ≡ true) e (itself x)
-  where
-    itself : (z : Payload) → same_payload z z ≡ true
-    itself Empty = refl
-    itself (Fields b) = (rec_decides b b).1 refl
+payload-same x y e = (payload_decides x y).1 e
 
 pub same-bool : (a b : Bool) → not (beq a b) ≡ false → a ≡ b
 same-bool true true h = refl

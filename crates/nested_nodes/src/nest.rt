@@ -31,12 +31,13 @@ impl Model for Nest {
     ghost use Rattle.khepri_terms.specs.Terms.{NameText};
     ghost use Rattle.khepri_terms.specs.Order.{name_cmp};
     ghost use Rattle.khepri_types.specs.contracts.condition.Condition as condition;
+    ghost use Rattle.khepri_types.specs.contracts.script.Statement as statement;
     ghost use Rattle.khepri_types.specs.declared.node.Node.{Node};
     ghost use Rattle.nested_nodes.specs.Nests.{whole, AreNests, most-spread};
 
     ghost Value = { List (List NameText × Node) };
 
-    ghost coded = { Prim.hlevel (codes, condition.the_row.coded) };
+    ghost coded = { Prim.hlevel (codes, condition.the_row.coded, statement.the_row.coded) };
 
     ghost view = { λ n. whole n.node n.kids.entries };
 

@@ -42,7 +42,7 @@ fn copy_node(
     ensures { IfOk result (λ n. n ≡ record { payload = payload.now; pv = pv; cv = cv; watches = watches.now }) }
 {
     Ok(Node {
-        payload: payload.copy()?,
+        payload: payload.copy(alloc)?,
         watches: copy_watches(alloc, watches)?,
         pv,
         cv,

@@ -18,6 +18,7 @@ fn payload_len(payload: &Payload) -> u64
     match payload {
         Payload::Empty => 1,
         Payload::Fields(rec) => rec.text_len() as u64,
+        Payload::Proc(script) => script.text().len() as u64,
     }
 }
 

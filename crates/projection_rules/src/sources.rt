@@ -30,6 +30,7 @@ fn source_of(
         }
         Origin::Field(key) => match node.payload {
             Payload::Empty => Ok(None),
+            Payload::Proc(_) => Ok(None),
             Payload::Fields(rec) => match rec.field(key.bytes()) {
                 None => Ok(None),
                 Some(value) => Ok(Some(value.copy()?)),

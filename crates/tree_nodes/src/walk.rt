@@ -31,11 +31,12 @@ impl<'t> Model for Walk<'t> {
     ghost use Rattle.std.specs.Coded.{codes};
     ghost use Rattle.std.specs.FinMap.{code};
     ghost use Rattle.khepri_types.specs.contracts.condition.Condition as condition;
+    ghost use Rattle.khepri_types.specs.contracts.script.Statement as statement;
     ghost use Rattle.tree_nodes.specs.Next.{Walked};
 
     ghost Value = { Walked };
 
-    ghost coded = { Prim.hlevel (code, codes, condition.the_row.coded) };
+    ghost coded = { Prim.hlevel (code, codes, condition.the_row.coded, statement.the_row.coded) };
 
     ghost view = { λ w. w.nested };
 }

@@ -65,6 +65,7 @@ impl<'a> Model for Draft<'a> {
     ghost use Rattle.std.specs.Map.{keys_of};
     ghost use Rattle.std.specs.FinMap.{code};
     ghost use Rattle.khepri_types.specs.contracts.condition.Condition as condition;
+    ghost use Rattle.khepri_types.specs.contracts.script.Statement as statement;
     ghost use Rattle.std.specs.Prelude.{◌≡◌};
     ghost use Rattle.khepri_types.specs.Sizes.{bytes as tree_bytes};
     ghost use Rattle.tree_overlay.specs.Over.{Drafted, IsShallow, over};
@@ -72,7 +73,7 @@ impl<'a> Model for Draft<'a> {
 
     ghost Value = { Drafted };
 
-    ghost coded = { Prim.hlevel (code, codes, condition.the_row.coded) };
+    ghost coded = { Prim.hlevel (code, codes, condition.the_row.coded, statement.the_row.coded) };
 
     ghost view = { λ d. record { base = d.base.now; tree = over d.base.now d.changed.entries; touched = keys_of d.changed.entries } };
 
@@ -418,13 +419,14 @@ impl Model for Changes {
     ghost use Rattle.std.specs.Map.{keys_of};
     ghost use Rattle.std.specs.FinMap.{code, len};
     ghost use Rattle.khepri_types.specs.contracts.condition.Condition as condition;
+    ghost use Rattle.khepri_types.specs.contracts.script.Statement as statement;
     ghost use Rattle.khepri_types.specs.Sizes.{bytes as tree_bytes};
     ghost use Rattle.khepri_types.specs.Tree.{IsTree};
     ghost use Rattle.tree_overlay.specs.Over.{Drafted, IsShallow, over};
 
     ghost Value = { Drafted };
 
-    ghost coded = { Prim.hlevel (code, codes, condition.the_row.coded) };
+    ghost coded = { Prim.hlevel (code, codes, condition.the_row.coded, statement.the_row.coded) };
 
     ghost view = { λ c. record { base = c.base.value; tree = over c.base.value c.changed.entries; touched = keys_of c.changed.entries } };
 

@@ -41,6 +41,7 @@ impl Model for Tree {
     ghost use Rattle.std.specs.FinMap.{from_sorted, code};
     ghost use Rattle.khepri_terms.specs.Order.{name_cmp, path_cmp};
     ghost use Rattle.khepri_types.specs.contracts.condition.Condition as condition;
+    ghost use Rattle.khepri_types.specs.contracts.script.Statement as statement;
     ghost use Rattle.khepri_types.specs.Tree.{Tree as Nodes};
     ghost use Rattle.khepri_types.specs.Sizes.{bytes as tree_bytes};
     ghost use Rattle.nested_nodes.specs.Nests.{IsNest};
@@ -48,7 +49,7 @@ impl Model for Tree {
 
     ghost Value = { Nodes };
 
-    ghost coded = { Prim.hlevel (code, codes, condition.the_row.coded) };
+    ghost coded = { Prim.hlevel (code, codes, condition.the_row.coded, statement.the_row.coded) };
 
     ghost view = { λ t. from_sorted {R = path_cmp} t.root };
 

@@ -8,10 +8,9 @@ use Rattle.std.specs.FinMap.{insert as insert_node}
 use Rattle.std.proofs.lemmas.List.{take-take, length-take-le}
 use Rattle.khepri_terms.specs.Terms.{NameText}
 use Rattle.khepri_terms.specs.Order.{path_cmp}
-use Rattle.khepri_terms.specs.OrderLaws.{rec_decides}
+use Rattle.khepri_types.proofs.Payloads.{payload_decides}
 use Rattle.khepri_types.specs.declared.node.Node.{Node}
 use Rattle.khepri_types.specs.declared.node.Payload.{Payload}
-use Rattle.khepri_types.specs.declared.node.Payload.TheVariants.{Empty, Fields}
 use Rattle.khepri_types.specs.Exec.{pv_of}
 use Rattle.khepri_types.specs.Tree.{Tree, IsTree, raised, raised_children, same_payload, stands, written, way_node}
 use Rattle.khepri_types.specs.Tree.{set as set_payload}
@@ -112,10 +111,7 @@ way-more p i j old now new le way f = record {
 -- ---- an equal payload changes nothing
 
 same_is : (x y : Payload) → same_payload x y ≡ true → x ≡ y
-same_is Empty Empty h = refl
-same_is Empty (Fields b) h = absurd cc
-same_is (Fields a) Empty h = absurd cc
-same_is (Fields a) (Fields b) h = ap Fields ((rec_decides a b).0 h)
+same_is x y h = (payload_decides x y).0 h
 
 pub written-same : (n : Node) (x : Payload) → same_payload x n.payload ≡ true → written n x ≡ n
 written-same n x h = λ i. record n { payload = same_is x n.payload h i; pv = if h i then n.pv else raised n.pv }
@@ -123,8 +119,7 @@ written-same n x h = λ i. record n { payload = same_is x n.payload h i; pv = if
 -- ---- a payload that is set
 
 same_itself : (x : Payload) → same_payload x x ≡ true
-same_itself Empty = refl
-same_itself (Fields a) = (rec_decides a a).1 refl
+same_itself x = (payload_decides x x).1 refl
 
 there-covers : (T : Tree) (p : List NameText) (x : Payload) (n : Node) (q : List NameText) (b o : Bool) → get T p ≡ Some n → same_payload x n.payload ≡ b → ((not b && is_eq (path_cmp p q)) || o) ≡ false → get T q ≡ get (insert_node T p (written n x)) q
 there-covers T p x n q true o is same off = sym (ap (λ (m : Node). get (insert_node T p m) q) (written-same n x same) ∙ ap (λ (U : Tree). get U q) (insert-same T p n is))

@@ -99,6 +99,7 @@ impl<'t> Model for Walk<'t> {
     ghost use Rattle.std.specs.FinMap.{from_sorted, code};
     ghost use Rattle.khepri_terms.specs.Order.{name_cmp, path_cmp};
     ghost use Rattle.khepri_types.specs.contracts.condition.Condition as condition;
+    ghost use Rattle.khepri_types.specs.contracts.script.Statement as statement;
     ghost use Rattle.khepri_types.specs.declared.limits.TheConstants.{MAX_PATH_NAMES};
     ghost use Rattle.nested_nodes.specs.Nests.{IsNest};
     ghost use Rattle.tree_overlay.specs.Over.{IsShallow};
@@ -107,7 +108,7 @@ impl<'t> Model for Walk<'t> {
 
     ghost Value = { Walked };
 
-    ghost coded = { Prim.hlevel (code, codes, condition.the_row.coded) };
+    ghost coded = { Prim.hlevel (code, codes, condition.the_row.coded, statement.the_row.coded) };
 
     ghost view = { λ w. record { tree = from_sorted {R = path_cmp} w.root.now; last = come_to w.begun (way_path w.way.items) } };
 

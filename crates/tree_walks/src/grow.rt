@@ -80,7 +80,7 @@ fn grow(draft: &mut Draft, path: &Path, payload: &Payload) -> Result<u64, AllocE
     let _nodes = draft.nodes();
     let above = standing_front(draft, path)?;
     let parent = path.front(above)?;
-    let payload = payload.copy()?;
+    let payload = payload.copy(draft.alloc())?;
     let before = raise(draft, &parent)?;
     build(draft, path, above, payload, before)?;
     Ok(1)
