@@ -2,21 +2,23 @@
 ghost use Rattle.std.specs.Prelude.{◌≡◌, ◌++◌, ◌∷◌, length, take, codes, IfOk, OnOk, OnErr, Err, Some, None};
 ghost use Rattle.std.specs.Fmt.{decimal};
 ghost use Rattle.khepri_terms.specs.Paths.{path_text};
+ghost use Rattle.khepri_terms.specs.Records.{rec_text};
+ghost use Rattle.khepri_types.specs.ScriptTexts.{script_text};
 ghost use Rattle.khepri_types.specs.ConditionTexts.{condition_text};
 ghost use Rattle.khepri_types.specs.PatternTexts.{pattern_text};
 ghost use Rattle.khepri_types.specs.Texts.{payload_text, watching_text, assigned_text, command_text};
 ghost use Rattle.line_text.specs.Grammar.{SpellsCommand, IsNoCommand};
-ghost use Rattle.khepri_types.specs.Reading.{spelled_path, spelled_set, spelled_assigned, spelled_cas, spelled_pattern, spelled_limit, limit_behind, spelled_many, deleting_or_asking, spelled_command};
+ghost use Rattle.khepri_types.specs.Reading.{spelled_path, spelled_set, spelled_assigned, spelled_cas, spelled_pattern, spelled_limit, limit_behind, spelled_many, spelled_tx, args_behind, spelled_run, running, deleting_or_asking, spelled_command};
 
-use crate::payload::{append_payload, read_payload};
+use crate::payload::{append_payload, read_payload, read_whole_script};
 use crate::watch::{append_asked, append_watching, read_asked, read_watching};
 use condition_text::words::{append_number, append_word, read_mark, strip};
 use condition_text::{append_pattern, read_pattern};
 use khepri_terms::numbers::read_number;
 use khepri_terms::texts::keep_whole;
-use khepri_terms::{Path, TextFault};
+use khepri_terms::{Path, Rec, TextFault};
 use khepri_types::limits::MAX_SHOWN_NODES;
-use khepri_types::{Command, Condition, Pattern, Payload, Watching};
+use khepri_types::{Command, Condition, Pattern, Payload, Script, Watching};
 use std::alloc::{AllocError, Global};
 
 /// Appends the spelling of a command; where memory is wanting, nothing.
@@ -62,7 +64,38 @@ pub(crate) fn append_command(cmd: &Command, out: &mut Vec<u8>) -> Result<(), All
         Command::Get { path } => append_path(b"get ", path, out),
         Command::Many { pattern, limit } => append_many(pattern, *limit, out),
         Command::Count { pattern } => append_scan(b"count ", pattern, out),
+        Command::Tx { args, script } => append_tx(args, script, out),
+        Command::Run { path, args } => append_run(path, args, out),
     }
+}
+
+// Appends `tx REC SCRIPT`.
+fn append_tx(args: &Rec, script: &Script, out: &mut Vec<u8>) -> Result<(), AllocError>
+    ensures ok { OnOk result (out.new.items ≡ out.old.items ++ (codes "tx " ++ rec_text args.now ++ 32 ∷ script_text script.now)) }
+    ensures front { take (length out.old.items) out.new.items ≡ out.old.items }
+{
+    append_rec(b"tx ", args, out)?;
+    append_word(b" ", out)?;
+    append_word(script.text(), out)
+}
+
+// Appends `run PATH REC`.
+fn append_run(path: &Path, args: &Rec, out: &mut Vec<u8>) -> Result<(), AllocError>
+    ensures ok { OnOk result (out.new.items ≡ out.old.items ++ (codes "run " ++ path_text path.now ++ 32 ∷ rec_text args.now)) }
+    ensures front { take (length out.old.items) out.new.items ≡ out.old.items }
+{
+    append_path(b"run ", path, out)?;
+    append_rec(b" ", args, out)
+}
+
+// Appends a word and a record.
+#[tactic(auto, using(khepri_terms::proofs::Printing::front_then))]
+fn append_rec(word: &[u8], rec: &Rec, out: &mut Vec<u8>) -> Result<(), AllocError>
+    ensures ok { OnOk result (out.new.items ≡ out.old.items ++ (word.now ++ rec_text rec.now)) }
+    ensures front { take (length out.old.items) out.new.items ≡ out.old.items }
+{
+    append_word(word, out)?;
+    rec.print(out)
 }
 
 // Appends `cas PATH COND`, a space, a payload, and what is said of watches.
@@ -315,5 +348,57 @@ fn match_deleting_or_asking(alloc: Global, text: &[u8]) -> Result<Command, TextF
         let pattern = read_whole_pattern(alloc, rest)?;
         return Ok(Command::Count { pattern });
     }
+    match_running(alloc, text)
+}
+
+// The commands that run a script, each word in turn.
+#[tactic(auto, unfolding(khepri_types::specs::Reading::running))]
+fn match_running(alloc: Global, text: &[u8]) -> Result<Command, TextFault>
+    ensures value { IfOk result (λ cmd. running text.now ≡ Some cmd) }
+    ensures bad { result ≡ Err TextFault.Bad → running text.now ≡ None }
+{
+    if let Some(rest) = strip(text, b"tx ") {
+        return read_tx(alloc, rest);
+    }
+    if let Some(rest) = strip(text, b"run ") {
+        return read_run(alloc, rest);
+    }
     Err(TextFault::Bad)
+}
+
+// `REC SCRIPT`, behind `tx `.
+#[tactic(auto, unfolding(khepri_types::specs::Reading::spelled_tx))]
+fn read_tx(alloc: Global, text: &[u8]) -> Result<Command, TextFault>
+    ensures value { IfOk result (λ cmd. spelled_tx text.now ≡ Some cmd) }
+    ensures bad { result ≡ Err TextFault.Bad → spelled_tx text.now ≡ None }
+{
+    let (args, rest) = Rec::read(alloc, text)?;
+    let rest = read_mark(rest, b' ')?;
+    let script = read_whole_script(alloc, rest)?;
+    Ok(Command::Tx { args, script })
+}
+
+// `PATH REC`, behind `run `.
+#[tactic(auto, unfolding(khepri_types::specs::Reading::spelled_run))]
+fn read_run(alloc: Global, text: &[u8]) -> Result<Command, TextFault>
+    ensures value { IfOk result (λ cmd. spelled_run text.now ≡ Some cmd) }
+    ensures bad { result ≡ Err TextFault.Bad → spelled_run text.now ≡ None }
+{
+    let (path, rest) = Path::read(alloc, text)?;
+    let args = read_args_behind(alloc, rest)?;
+    Ok(Command::Run { path, args })
+}
+
+// A record behind a space, as the whole text spells it.
+#[tactic(auto, unfolding(khepri_types::specs::Reading::args_behind))]
+fn read_args_behind(alloc: Global, text: &[u8]) -> Result<Rec, TextFault>
+    ensures value { IfOk result (λ r. args_behind text.now ≡ Some r) }
+    ensures bad { result ≡ Err TextFault.Bad → args_behind text.now ≡ None }
+{
+    let rest = read_mark(text, b' ')?;
+    let (args, rest) = Rec::read(alloc, rest)?;
+    match rest {
+        [] => Ok(args),
+        [_, ..] => Err(TextFault::Bad),
+    }
 }

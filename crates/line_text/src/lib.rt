@@ -10,6 +10,7 @@ mod output;
 mod payload;
 mod reply;
 mod shown;
+mod values;
 mod watch;
 mod words;
 

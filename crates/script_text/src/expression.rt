@@ -2,17 +2,16 @@
 ghost use Rattle.std.specs.Prelude.{◌≡◌, IfOk, Err, Some, None};
 ghost use Rattle.khepri_types.specs.Items.{ended};
 ghost use Rattle.khepri_types.specs.ReadingScripts.{pair_expr, one_expr, arguments_at, layer_expr_at, nested_expr_at, expr_at};
-ghost use Rattle.script_text.specs.Forms.{form_at, pair_at};
+ghost use Rattle.script_text.specs.Forms.{form_at, key_and, pair_at};
 
 use crate::leaf::read_leaf;
-use crate::parts::{read_condition_closed, read_int_closed, read_key_part, read_quoted_closed};
+use crate::parts::{marked, read_condition_closed, read_key_int, read_key_part, read_key_quoted};
 use crate::words::expr_word;
-use condition_text::words::read_mark;
 use khepri_terms::{Name, TextFault};
 use khepri_types::limits::MAX_EXPRESSION_NESTING;
 use khepri_types::{Expr, ExprWord, OneWord, PairWord};
 use sqlite_items::Boxed;
-use std::alloc::{AllocError, Global};
+use std::alloc::Global;
 
 /// The expression at the front, of at most `left` parts, how many are left, and what is after it.
 pub(crate) fn read_expr(
@@ -37,7 +36,7 @@ pub(crate) fn read_marked(
     ensures bad { result ≡ Err TextFault.Bad → ended mark expr_at left text.now ≡ None }
 {
     let (a, left, rest) = read_expr(alloc, left, text)?;
-    let rest = read_mark(rest, mark)?;
+    let (a, rest) = marked(a, mark, rest)?;
     Ok((a, left, rest))
 }
 
@@ -130,7 +129,7 @@ fn read_pair_form(
     ensures bad { result ≡ Err TextFault.Bad → arguments_at (nested_expr_at nesting) (ExprWord.Pair word) left text.now ≡ None }
 {
     let (a, b, left, rest) = read_pair(alloc, nesting, left, text)?;
-    Ok((pair_expr(alloc, word, a, b)?, left, rest))
+    Ok((pair_expr(word, a, b), left, rest))
 }
 
 // Behind the word of a form of one expression.
@@ -146,8 +145,8 @@ fn read_one_form(
     ensures value { IfOk result (λ x. arguments_at (nested_expr_at nesting) (ExprWord.One word) left text.now ≡ Some (x.0, x.1, x.2.now)) }
     ensures bad { result ≡ Err TextFault.Bad → arguments_at (nested_expr_at nesting) (ExprWord.One word) left text.now ≡ None }
 {
-    let (a, left, rest) = read_ended(alloc, nesting, b')', left, text)?;
-    Ok((one_expr(alloc, word, a)?, left, rest))
+    let (a, left, rest) = read_boxed(alloc, nesting, b')', left, text)?;
+    Ok((one_expr(word, a), left, rest))
 }
 
 // Behind `int(`.
@@ -162,10 +161,9 @@ fn read_int_field(
     ensures value { IfOk result (λ x. arguments_at (nested_expr_at nesting) ExprWord.Int left text.now ≡ Some (x.0, x.1, x.2.now)) }
     ensures bad { result ≡ Err TextFault.Bad → arguments_at (nested_expr_at nesting) ExprWord.Int left text.now ≡ None }
 {
-    let (a, left, rest) = read_ended(alloc, nesting, b',', left, text)?;
-    let (key, left, rest) = read_key_part(alloc, left, rest)?;
-    let (z, left, rest) = read_int_closed(left, rest)?;
-    Ok((Expr::IntField(Boxed::new(alloc, a)?, key, z), left, rest))
+    let (a, left, rest) = read_boxed(alloc, nesting, b',', left, text)?;
+    let (key, z, left, rest) = read_key_int(alloc, left, rest)?;
+    Ok((Expr::IntField(a, key, z), left, rest))
 }
 
 // Behind `text(`.
@@ -180,14 +178,9 @@ fn read_text_field(
     ensures value { IfOk result (λ x. arguments_at (nested_expr_at nesting) ExprWord.Text left text.now ≡ Some (x.0, x.1, x.2.now)) }
     ensures bad { result ≡ Err TextFault.Bad → arguments_at (nested_expr_at nesting) ExprWord.Text left text.now ≡ None }
 {
-    let (a, left, rest) = read_ended(alloc, nesting, b',', left, text)?;
-    let (key, left, rest) = read_key_part(alloc, left, rest)?;
-    let (bytes, left, rest) = read_quoted_closed(alloc, left, rest)?;
-    Ok((
-        Expr::TextField(Boxed::new(alloc, a)?, key, bytes),
-        left,
-        rest,
-    ))
+    let (a, left, rest) = read_boxed(alloc, nesting, b',', left, text)?;
+    let (key, bytes, left, rest) = read_key_quoted(alloc, left, rest)?;
+    Ok((Expr::TextField(a, key, bytes), left, rest))
 }
 
 // Behind `with(`.
@@ -202,10 +195,9 @@ fn read_with(
     ensures value { IfOk result (λ x. arguments_at (nested_expr_at nesting) ExprWord.With left text.now ≡ Some (x.0, x.1, x.2.now)) }
     ensures bad { result ≡ Err TextFault.Bad → arguments_at (nested_expr_at nesting) ExprWord.With left text.now ≡ None }
 {
-    let (a, left, rest) = read_ended(alloc, nesting, b',', left, text)?;
-    let (key, left, rest) = read_key_part(alloc, left, rest)?;
-    let (b, left, rest) = read_ended(alloc, nesting, b')', left, rest)?;
-    Ok((with_expr(alloc, a, key, b)?, left, rest))
+    let (a, left, rest) = read_boxed(alloc, nesting, b',', left, text)?;
+    let (key, b, left, rest) = read_key_boxed(alloc, nesting, left, rest)?;
+    Ok((Expr::With(a, key, b), left, rest))
 }
 
 // Behind `test(`.
@@ -220,25 +212,25 @@ fn read_test(
     ensures value { IfOk result (λ x. arguments_at (nested_expr_at nesting) ExprWord.Test left text.now ≡ Some (x.0, x.1, x.2.now)) }
     ensures bad { result ≡ Err TextFault.Bad → arguments_at (nested_expr_at nesting) ExprWord.Test left text.now ≡ None }
 {
-    let (a, left, rest) = read_ended(alloc, nesting, b',', left, text)?;
+    let (a, left, rest) = read_boxed(alloc, nesting, b',', left, text)?;
     let (cond, left, rest) = read_condition_closed(alloc, left, rest)?;
-    Ok((Expr::Test(Boxed::new(alloc, a)?, cond), left, rest))
+    Ok((Expr::Test(a, cond), left, rest))
 }
 
 // An expression and this byte behind it.
 #[cycle(reading)]
-fn read_ended(
+fn read_boxed(
     alloc: Global,
     nesting: usize,
     mark: u8,
     left: usize,
     text: &[u8],
-) -> Result<(Expr, usize, &[u8]), TextFault>
+) -> Result<(Boxed<Expr>, usize, &[u8]), TextFault>
     ensures value { IfOk result (λ x. ended mark (nested_expr_at nesting) left text.now ≡ Some (x.0, x.1, x.2.now)) }
     ensures bad { result ≡ Err TextFault.Bad → ended mark (nested_expr_at nesting) left text.now ≡ None }
 {
     let (a, left, rest) = read_nested(alloc, nesting, left, text)?;
-    let rest = read_mark(rest, mark)?;
+    let (a, rest) = marked(Boxed::new(alloc, a)?, mark, rest)?;
     Ok((a, left, rest))
 }
 
@@ -249,50 +241,56 @@ fn read_pair(
     nesting: usize,
     left: usize,
     text: &[u8],
-) -> Result<(Expr, Expr, usize, &[u8]), TextFault>
+) -> Result<(Boxed<Expr>, Boxed<Expr>, usize, &[u8]), TextFault>
     ensures value { IfOk result (λ x. pair_at nesting left text.now ≡ Some ((x.0, x.1), x.2, x.3.now)) }
     ensures bad { result ≡ Err TextFault.Bad → pair_at nesting left text.now ≡ None }
 {
-    let (a, left, rest) = read_ended(alloc, nesting, b',', left, text)?;
-    let (b, left, rest) = read_ended(alloc, nesting, b')', left, rest)?;
+    let (a, left, rest) = read_boxed(alloc, nesting, b',', left, text)?;
+    let (b, left, rest) = read_boxed(alloc, nesting, b')', left, rest)?;
     Ok((a, b, left, rest))
 }
 
-// A form of two expressions.
-fn pair_expr(alloc: Global, word: PairWord, a: Expr, b: Expr) -> Result<Expr, AllocError>
-    ensures { IfOk result (λ e. e ≡ pair_expr word (a, b)) }
+// `KEY,e)`.
+#[cycle(reading)]
+fn read_key_boxed(
+    alloc: Global,
+    nesting: usize,
+    left: usize,
+    text: &[u8],
+) -> Result<(Name, Boxed<Expr>, usize, &[u8]), TextFault>
+    ensures value { IfOk result (λ x. key_and (nested_expr_at nesting) left text.now ≡ Some ((x.0, x.1), x.2, x.3.now)) }
+    ensures bad { result ≡ Err TextFault.Bad → key_and (nested_expr_at nesting) left text.now ≡ None }
 {
-    let a = Boxed::new(alloc, a)?;
-    let b = Boxed::new(alloc, b)?;
+    let (key, left, rest) = read_key_part(alloc, left, text)?;
+    let (b, left, rest) = read_boxed(alloc, nesting, b')', left, rest)?;
+    Ok((key, b, left, rest))
+}
+
+// A form of two expressions.
+fn pair_expr(word: PairWord, a: Boxed<Expr>, b: Boxed<Expr>) -> Expr
+    ensures { result ≡ pair_expr word (a, b) }
+{
     match word {
-        PairWord::Add => Ok(Expr::Add(a, b)),
-        PairWord::Sub => Ok(Expr::Sub(a, b)),
-        PairWord::Cat => Ok(Expr::Cat(a, b)),
-        PairWord::Child => Ok(Expr::Child(a, b)),
-        PairWord::All => Ok(Expr::All(a, b)),
-        PairWord::Any => Ok(Expr::Any(a, b)),
-        PairWord::Compare(op) => Ok(Expr::Compare(op, a, b)),
+        PairWord::Add => Expr::Add(a, b),
+        PairWord::Sub => Expr::Sub(a, b),
+        PairWord::Cat => Expr::Cat(a, b),
+        PairWord::Child => Expr::Child(a, b),
+        PairWord::All => Expr::All(a, b),
+        PairWord::Any => Expr::Any(a, b),
+        PairWord::Compare(op) => Expr::Compare(op, a, b),
     }
 }
 
 // A form of one expression.
-fn one_expr(alloc: Global, word: OneWord, a: Expr) -> Result<Expr, AllocError>
-    ensures { IfOk result (λ e. e ≡ one_expr word a) }
+fn one_expr(word: OneWord, a: Boxed<Expr>) -> Expr
+    ensures { result ≡ one_expr word a }
 {
-    let a = Boxed::new(alloc, a)?;
     match word {
-        OneWord::Data => Ok(Expr::Data(a)),
-        OneWord::Pv => Ok(Expr::Pv(a)),
-        OneWord::Cv => Ok(Expr::Cv(a)),
-        OneWord::Kids => Ok(Expr::Kids(a)),
-        OneWord::Last => Ok(Expr::Last(a)),
-        OneWord::Not => Ok(Expr::Not(a)),
+        OneWord::Data => Expr::Data(a),
+        OneWord::Pv => Expr::Pv(a),
+        OneWord::Cv => Expr::Cv(a),
+        OneWord::Kids => Expr::Kids(a),
+        OneWord::Last => Expr::Last(a),
+        OneWord::Not => Expr::Not(a),
     }
-}
-
-fn with_expr(alloc: Global, a: Expr, key: Name, b: Expr) -> Result<Expr, AllocError>
-    ensures { IfOk result (λ e. e ≡ Expr.With a key b) }
-{
-    let a = Boxed::new(alloc, a)?;
-    Ok(Expr::With(a, key, Boxed::new(alloc, b)?))
 }

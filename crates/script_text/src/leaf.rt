@@ -29,7 +29,7 @@ pub(crate) fn read_register(text: &[u8]) -> Result<(Register, &[u8]), TextFault>
 
 /// The bytes behind a `'` at the front, as far as they go, and what is after them.
 #[tactic(auto, unfolding(khepri_types::specs::ReadingScripts::quoted_at))]
-pub(crate) fn read_quoted(alloc: Global, text: &[u8]) -> Result<(Bytes, &[u8]), TextFault>
+pub fn read_quoted(alloc: Global, text: &[u8]) -> Result<(Bytes, &[u8]), TextFault>
     ensures value { IfOk result (λ x. quoted_at text.now ≡ Some (x.0, x.1.now)) }
     ensures bad { result ≡ Err TextFault.Bad → quoted_at text.now ≡ None }
 {

@@ -11,6 +11,10 @@ mod print_statement;
 mod printing;
 mod script;
 mod statement;
+mod value;
 mod words;
 
+pub use leaf::read_quoted;
+pub use printing::append_quoted;
 pub use script::{print_script, read_script};
+pub use value::{append_values, read_value};

@@ -57,7 +57,7 @@ pub(crate) fn append_register(register: Register, out: &mut Vec<u8>) -> Result<(
 }
 
 /// Appends a `'` and the bytes.
-pub(crate) fn append_quoted(bytes: &Bytes, out: &mut Vec<u8>) -> Result<(), AllocError>
+pub fn append_quoted(bytes: &Bytes, out: &mut Vec<u8>) -> Result<(), AllocError>
     ensures ok { OnOk result (out.new.items ≡ out.old.items ++ quoted bytes.now) }
     ensures front { take (length out.old.items) out.new.items ≡ out.old.items }
 {

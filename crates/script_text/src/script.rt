@@ -1,5 +1,5 @@
 // Scripts.
-ghost use Rattle.std.specs.Prelude.{◌≡◌, ◌++◌, length, take, IfOk, OnOk, OnErr, Err, Some, None};
+ghost use Rattle.std.specs.Prelude.{◌≡◌, ◌-◌, ◌≤◌, ◌++◌, length, take, IfOk, OnOk, OnErr, Err, Some, None};
 ghost use Rattle.khepri_types.specs.ReadingScripts.{script_at};
 ghost use Rattle.khepri_types.specs.ScriptTexts.{script_text};
 ghost use Rattle.script_text.specs.Forms.{between};
@@ -8,8 +8,8 @@ ghost use Rattle.script_text.specs.Spelling.{SpellsScript, IsNoScript};
 use crate::print_statement::append_block;
 use crate::statement::read_block;
 use condition_text::words::{append_word, read_mark};
-use khepri_terms::TextFault;
 use khepri_terms::texts::keep_whole;
+use khepri_terms::{Bytes, TextFault};
 use khepri_types::limits::{MAX_BLOCK_NESTING, MAX_SCRIPT_PARTS, MAX_SCRIPT_TEXT};
 use khepri_types::{Script, Statement};
 use script_laws::script_spelling;
@@ -25,9 +25,21 @@ pub fn read_script(alloc: Global, text: &[u8]) -> Result<(Script, &[u8]), TextFa
 {
     script_spelling(); // a law, for the proof alone
     match match_script(alloc, text) {
-        Ok((block, rest)) => Ok((Script::new(block), rest)),
+        Ok((block, rest)) => {
+            let spelled = text_before(alloc, text, rest)?;
+            Ok((Script::new(block, spelled), rest))
+        }
         Err(fault) => Err(fault),
     }
+}
+
+// The bytes of a text up to what is after them.
+fn text_before(alloc: Global, text: &[u8], rest: &[u8]) -> Result<Bytes, AllocError>
+    requires within { length rest.now ≤ length text.now }
+    ensures { IfOk result (λ b. b ≡ take (length text.now - length rest.now) text.now) }
+{
+    let (front, _) = text.split_at(text.len() - rest.len());
+    Bytes::from_slice(alloc, front)
 }
 
 // The block of the script at the front, and what is after the script.

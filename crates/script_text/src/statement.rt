@@ -2,14 +2,14 @@
 ghost use Rattle.std.specs.Prelude.{◌≡◌, IfOk, Err, Some, None};
 ghost use Rattle.khepri_types.specs.Items.{behind, items_at, some_items, turn_at};
 ghost use Rattle.khepri_types.specs.ReadingScripts.{block_at, deed, statement_arguments};
-ghost use Rattle.script_text.specs.Forms.{deed_at, hold_at, let_at, put_at, statement_in, worded_at};
+ghost use Rattle.script_text.specs.Forms.{branches_at, deed_at, held_at, hold_at, let_at, put_at, statement_in, turns_at, worded_at};
 
 use crate::expression::read_marked;
 use crate::parts::{read_condition_closed, read_pattern_closed, read_register_part};
 use crate::words::statement_word;
 use condition_text::words::read_mark;
 use khepri_terms::TextFault;
-use khepri_types::{DeedWord, Expr, Statement, StatementWord};
+use khepri_types::{Condition, DeedWord, Expr, Pattern, Statement, StatementWord};
 use sqlite_items::Items;
 use std::alloc::Global;
 
@@ -191,8 +191,13 @@ fn read_put(alloc: Global, left: usize, text: &[u8]) -> Result<(Statement, usize
     ensures bad { result ≡ Err TextFault.Bad → put_at left text.now ≡ None }
 {
     let (a, left, rest) = read_marked(alloc, b',', left, text)?;
-    let (b, left, rest) = read_marked(alloc, b')', left, rest)?;
-    Ok((Statement::Put(a, b), left, rest))
+    match read_marked(alloc, b')', left, rest) {
+        Ok((b, left, rest)) => Ok((Statement::Put(a, b), left, rest)),
+        Err(fault) => {
+            drop(a);
+            Err(fault)
+        }
+    }
 }
 
 // Behind `hold(`.
@@ -205,9 +210,32 @@ fn read_hold(
     ensures bad { result ≡ Err TextFault.Bad → hold_at left text.now ≡ None }
 {
     let (a, left, rest) = read_marked(alloc, b',', left, text)?;
-    let (b, left, rest) = read_marked(alloc, b',', left, rest)?;
-    let (cond, left, rest) = read_condition_closed(alloc, left, rest)?;
-    Ok((Statement::Hold(a, b, cond), left, rest))
+    match read_held(alloc, left, rest) {
+        Ok((b, cond, left, rest)) => Ok((Statement::Hold(a, b, cond), left, rest)),
+        Err(fault) => {
+            drop(a);
+            Err(fault)
+        }
+    }
+}
+
+// `e,COND)`.
+fn read_held(
+    alloc: Global,
+    left: usize,
+    text: &[u8],
+) -> Result<(Expr, Condition, usize, &[u8]), TextFault>
+    ensures value { IfOk result (λ x. held_at left text.now ≡ Some ((x.0, x.1), x.2, x.3.now)) }
+    ensures bad { result ≡ Err TextFault.Bad → held_at left text.now ≡ None }
+{
+    let (b, left, rest) = read_marked(alloc, b',', left, text)?;
+    match read_condition_closed(alloc, left, rest) {
+        Ok((cond, left, rest)) => Ok((b, cond, left, rest)),
+        Err(fault) => {
+            drop(b);
+            Err(fault)
+        }
+    }
 }
 
 // Behind `if(`.
@@ -223,9 +251,34 @@ fn read_if(
     ensures bad { result ≡ Err TextFault.Bad → statement_arguments (block_at nesting 125) StatementWord.If left text.now ≡ None }
 {
     let (e, left, rest) = read_marked(alloc, b')', left, text)?;
-    let (a, left, rest) = read_braced(alloc, nesting, left, rest)?;
-    let (b, left, rest) = read_braced(alloc, nesting, left, rest)?;
-    Ok((Statement::If(e, a, b), left, rest))
+    match read_branches(alloc, nesting, left, rest) {
+        Ok((a, b, left, rest)) => Ok((Statement::If(e, a, b), left, rest)),
+        Err(fault) => {
+            drop(e);
+            Err(fault)
+        }
+    }
+}
+
+// Two blocks between braces.
+#[cycle(reading)]
+fn read_branches(
+    alloc: Global,
+    nesting: usize,
+    left: usize,
+    text: &[u8],
+) -> Result<(Items<Statement>, Items<Statement>, usize, &[u8]), TextFault>
+    ensures value { IfOk result (λ x. branches_at nesting left text.now ≡ Some ((x.0, x.1), x.2, x.3.now)) }
+    ensures bad { result ≡ Err TextFault.Bad → branches_at nesting left text.now ≡ None }
+{
+    let (a, left, rest) = read_braced(alloc, nesting, left, text)?;
+    match read_braced(alloc, nesting, left, rest) {
+        Ok((b, left, rest)) => Ok((a, b, left, rest)),
+        Err(fault) => {
+            drop(a);
+            Err(fault)
+        }
+    }
 }
 
 // Behind `each(`.
@@ -241,9 +294,29 @@ fn read_each(
     ensures bad { result ≡ Err TextFault.Bad → statement_arguments (block_at nesting 125) StatementWord.Each left text.now ≡ None }
 {
     let (register, left, rest) = read_register_part(left, text)?;
-    let (pattern, left, rest) = read_pattern_closed(alloc, left, rest)?;
-    let (body, left, rest) = read_braced(alloc, nesting, left, rest)?;
+    let (pattern, body, left, rest) = read_turns(alloc, nesting, left, rest)?;
     Ok((Statement::Each(register, pattern, body), left, rest))
+}
+
+// `PATTERN)`, and a block between braces.
+#[cycle(reading)]
+fn read_turns(
+    alloc: Global,
+    nesting: usize,
+    left: usize,
+    text: &[u8],
+) -> Result<(Pattern, Items<Statement>, usize, &[u8]), TextFault>
+    ensures value { IfOk result (λ x. turns_at nesting left text.now ≡ Some ((x.0, x.1), x.2, x.3.now)) }
+    ensures bad { result ≡ Err TextFault.Bad → turns_at nesting left text.now ≡ None }
+{
+    let (pattern, left, rest) = read_pattern_closed(alloc, left, text)?;
+    match read_braced(alloc, nesting, left, rest) {
+        Ok((body, left, rest)) => Ok((pattern, body, left, rest)),
+        Err(fault) => {
+            drop(pattern);
+            Err(fault)
+        }
+    }
 }
 
 // A block between braces.

@@ -12,4 +12,4 @@ mod typing;
 mod value;
 
 pub use run::run_script;
-pub use typing::{Checked, ScriptFault, check};
+pub use typing::{Checked, ScriptFault, check, is_checked};

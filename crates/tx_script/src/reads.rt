@@ -55,6 +55,7 @@ fn fields_seen(alloc: Global, seen: Option<&NodeView>) -> Result<Rec, AllocError
         Some(node) => match node.payload {
             Payload::Empty => Ok(Rec::empty(alloc)),
             Payload::Fields(rec) => rec.copy(),
+            Payload::Proc(_) => Ok(Rec::empty(alloc)),
         },
         None => Ok(Rec::empty(alloc)),
     }

@@ -1,7 +1,7 @@
 // Running statements.
 ghost use Rattle.std.specs.Prelude.{◌≡◌, [], ◌∷◌, ◌++◌, IfOk, OnOk, map};
 ghost use Rattle.khepri_types.specs.Scenes.{Scene};
-ghost use Rattle.khepri_types.specs.Statements.{spend, turn, turns, put, clear, del, hold, free, emit, does, block, script, outcome_of, end_of, stopped};
+ghost use Rattle.khepri_types.specs.Statements.{spend, turn, turns, put, clear, del, hold, free, emit, does, block, script, no_of, outcome_of, end_of, stopped};
 ghost use Rattle.khepri_types.specs.Values.{emitted};
 ghost use Rattle.tx_script.specs.declared.run.Machine.{Machine};
 ghost use Rattle.tx_script.specs.Answers.{run_of, Ends, Adds};
@@ -15,8 +15,8 @@ use crate::value::{pair, value};
 use khepri_terms::{Path, Rec};
 use khepri_types::limits::{MAX_EMITTED, MAX_PATH_NAMES, MAX_UNITS, MAX_WATCHES};
 use khepri_types::{
-    Operand, Outcome, Payload, Refusal, Register, Registers, ScriptTree, Statement, Stop, Value,
-    Watch, Watches,
+    Operand, Outcome, Payload, Refusal, Register, Registers, Reply, ScriptTree, Statement, Stop,
+    Value, Watch, Watches,
 };
 use sqlite_items::Items;
 use std::alloc::{AllocError, Global};
@@ -280,13 +280,26 @@ fn statement<T: ScriptTree>(
     }
 }
 
+// What answers a refusal inside a script.
+fn reply_to(why: Refusal) -> Reply
+    ensures { result ≡ no_of why }
+{
+    match why {
+        Refusal::Root => Reply::NoRoot,
+        Refusal::Deep => Reply::NoDeep,
+        Refusal::Absent => Reply::NoAbsent,
+        Refusal::Full => Reply::NoFull,
+        Refusal::Name => Reply::NoName,
+    }
+}
+
 fn ended(stop: Stop) -> Outcome
     ensures { result ≡ stopped stop }
 {
     match stop {
         Stop::Abort(text) => Outcome::Abort(text),
         Stop::Spent => Outcome::Spent,
-        Stop::Refused(why) => Outcome::Refused(why),
+        Stop::Refused(why) => Outcome::Refused(reply_to(why)),
     }
 }
 

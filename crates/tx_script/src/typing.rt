@@ -1,10 +1,11 @@
 // Which scripts are well typed.
 ghost use Rattle.std.specs.Prelude.{◌≡◌, true, false, Some, map, IfOk, OnOk, Err};
 ghost use Rattle.khepri_types.specs.Conditions.{all_true};
+ghost use Rattle.khepri_types.specs.Exec.{is_checked};
 ghost use Rattle.khepri_types.specs.ScriptTexts.{IsScript};
 ghost use Rattle.khepri_types.specs.Typing.{is_int, is_text, is_path, is_rec, is_bool, register_type, gives, takes, type_of, typed, well_typed};
 
-use khepri_types::{Expr, Register, Script, Statement, ValueType};
+use khepri_types::{Expr, Payload, Register, Script, Statement, ValueType};
 use std::alloc::Global;
 use std::marker::Model;
 use thiserror::Error;
@@ -226,5 +227,16 @@ pub fn check(alloc: Global, script: &Script) -> Result<Checked, ScriptFault>
     match script.copy(alloc) {
         Ok(script) => Ok(Checked { script }),
         Err(_) => Err(ScriptFault::NoMemory),
+    }
+}
+
+/// Whether a payload may be set: a script only where it is well typed. It takes no memory.
+pub fn is_checked(payload: &Payload) -> bool
+    ensures { result ≡ is_checked payload.now }
+{
+    match payload {
+        Payload::Empty => true,
+        Payload::Fields(_) => true,
+        Payload::Proc(script) => all_typed(script.block()),
     }
 }

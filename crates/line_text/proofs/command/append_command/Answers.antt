@@ -73,3 +73,17 @@ returns-in-Count-clause-ok c = on_ok_weaker c.append_scan-in-Count.result (λ e.
 
 pub returns-in-Count-clause-front : goal.returns-in-Count-clause-front
 returns-in-Count-clause-front c = c.append_scan-in-Count.ensures.front
+
+pub returns-in-Tx-clause-ok : goal.returns-in-Tx-clause-ok
+unfolding command_text
+returns-in-Tx-clause-ok c = on_ok_weaker c.append_tx.result (λ e. e ∙ ap (λ (x : Command). c.args.out.now.items ++ command_text x) (sym c.in-Tx.is)) c.append_tx.ensures.ok
+
+pub returns-in-Tx-clause-front : goal.returns-in-Tx-clause-front
+returns-in-Tx-clause-front c = c.append_tx.ensures.front
+
+pub returns-in-Run-clause-ok : goal.returns-in-Run-clause-ok
+unfolding command_text
+returns-in-Run-clause-ok c = on_ok_weaker c.append_run.result (λ e. e ∙ ap (λ (x : Command). c.args.out.now.items ++ command_text x) (sym c.in-Run.is)) c.append_run.ensures.ok
+
+pub returns-in-Run-clause-front : goal.returns-in-Run-clause-front
+returns-in-Run-clause-front c = c.append_run.ensures.front

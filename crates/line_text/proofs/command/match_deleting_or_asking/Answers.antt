@@ -1,4 +1,4 @@
-use Rattle.std.proofs.Common.{◌≡◌, ℕ, true, false, List, drop, sym, ap, ◌∙◌, codes, None, Err}
+use Rattle.std.proofs.Common.{◌≡◌, ℕ, true, false, List, drop, sym, ap, ◌∙◌, codes, Err}
 use Rattle.std.proofs.lemmas.Bool.{cond-true, cond-false}
 use Rattle.std.proofs.lemmas.Result.{IfOk-weaker, err_from_is_err_and}
 use Rattle.khepri_terms.specs.declared.fault.TextFault.{TextFault}
@@ -6,7 +6,7 @@ use Rattle.khepri_terms.specs.declared.fault.TextFault.TheVariants.{Bad}
 use Rattle.khepri_terms.proofs.Cases.{err_is}
 use Rattle.khepri_types.specs.Words.{begins}
 use Rattle.khepri_types.specs.declared.command.Command.TheVariants.{Del, Delmany, Get, Count}
-use Rattle.khepri_types.specs.Reading.{naming, scanning, spelled_path, spelled_pattern, spelled_many, deleting_or_asking}
+use Rattle.khepri_types.specs.Reading.{naming, scanning, spelled_path, spelled_pattern, spelled_many, deleting_or_asking, running}
 use Rattle.line_text.proofs.command.match_deleting_or_asking.Goals as goal
 
 del_read : (text rest : List ℕ) → begins (codes "del ") text ≡ true → rest ≡ drop 4 text → deleting_or_asking text ≡ naming Del (spelled_path rest)
@@ -29,9 +29,9 @@ count_read : (text rest : List ℕ) → begins (codes "del ") text ≡ false →
 unfolding deleting_or_asking
 count_read text rest n0 n1 n2 n3 e is = cond-false _ _ _ n0 ∙ (cond-false _ _ _ n1 ∙ (cond-false _ _ _ n2 ∙ (cond-false _ _ _ n3 ∙ (cond-true _ _ _ e ∙ ap (λ (r : List ℕ). scanning Count (spelled_pattern r)) (sym is)))))
 
-none_read : (text : List ℕ) → begins (codes "del ") text ≡ false → begins (codes "delmany ") text ≡ false → begins (codes "get ") text ≡ false → begins (codes "many ") text ≡ false → begins (codes "count ") text ≡ false → deleting_or_asking text ≡ None
+third_read : (text : List ℕ) → begins (codes "del ") text ≡ false → begins (codes "delmany ") text ≡ false → begins (codes "get ") text ≡ false → begins (codes "many ") text ≡ false → begins (codes "count ") text ≡ false → deleting_or_asking text ≡ running text
 unfolding deleting_or_asking
-none_read text n0 n1 n2 n3 n4 = cond-false _ _ _ n0 ∙ (cond-false _ _ _ n1 ∙ (cond-false _ _ _ n2 ∙ (cond-false _ _ _ n3 ∙ (cond-false _ _ _ n4))))
+third_read text n0 n1 n2 n3 n4 = cond-false _ _ _ n0 ∙ (cond-false _ _ _ n1 ∙ (cond-false _ _ _ n2 ∙ (cond-false _ _ _ n3 ∙ (cond-false _ _ _ n4))))
 
 pub returns-in-Some-clause-value : goal.returns-in-Some-clause-value
 returns-in-Some-clause-value c = del_read c.args.text.now c.in-Some.rest.now c.in-Some.ensures.0 c.in-Some.ensures.1 ∙ ap (naming Del) c.in_ok-path.ensures.value
@@ -71,5 +71,8 @@ returns-in_err-pattern-2-clause-bad c =
     let p = err_from_is_err_and c.from_residual-in_err-pattern-2.result c.from_residual-in_err-pattern-2.ensures.1 in
     rw (p.1, p.2) (λ h. count_read c.args.text.now c.in-Some-strip-4.rest.now c.in_default.ensures c.in_default-strip.ensures c.in_default-strip-2.ensures c.in_default-strip-3.ensures c.in-Some-strip-4.ensures.0 c.in-Some-strip-4.ensures.1 ∙ ap (scanning Count) (c.in_err-pattern-2.ensures.bad (ap (λ (d : TextFault). Err d) (err_is c.in_err-pattern-2.field-0.0 Bad h))))
 
+pub returns-clause-value : goal.returns-clause-value
+returns-clause-value c = IfOk-weaker c.match_running.result _ _ (λ x e. third_read c.args.text.now c.in_default.ensures c.in_default-strip.ensures c.in_default-strip-2.ensures c.in_default-strip-3.ensures c.in_default-strip-4.ensures ∙ e) c.match_running.ensures.value
+
 pub returns-clause-bad : goal.returns-clause-bad
-returns-clause-bad c = λ _. none_read c.args.text.now c.in_default.ensures c.in_default-strip.ensures c.in_default-strip-2.ensures c.in_default-strip-3.ensures c.in_default-strip-4.ensures
+returns-clause-bad c = λ e. third_read c.args.text.now c.in_default.ensures c.in_default-strip.ensures c.in_default-strip-2.ensures c.in_default-strip-3.ensures c.in_default-strip-4.ensures ∙ c.match_running.ensures.bad e

@@ -76,3 +76,38 @@ returns-in-NoFull-clause-ok c = on_ok_weaker c.append_word-in-NoFull.result (λ 
 
 pub returns-in-NoFull-clause-front : goal.returns-in-NoFull-clause-front
 returns-in-NoFull-clause-front c = c.append_word-in-NoFull.ensures.front
+
+pub returns-in-Done-clause-ok : goal.returns-in-Done-clause-ok
+unfolding reply_text
+returns-in-Done-clause-ok c = on_ok_weaker c.append_done.result (λ e. e ∙ ap (λ (x : Reply). c.args.out.now.items ++ reply_text x) (sym c.in-Done.is)) c.append_done.ensures.ok
+
+pub returns-in-Done-clause-front : goal.returns-in-Done-clause-front
+returns-in-Done-clause-front c = c.append_done.ensures.front
+
+pub returns-in-NoScript-clause-ok : goal.returns-in-NoScript-clause-ok
+unfolding reply_text
+returns-in-NoScript-clause-ok c = on_ok_weaker c.append_word-in-NoScript.result (λ e. e ∙ ap (λ (x : Reply). c.args.out.now.items ++ reply_text x) (sym c.in-NoScript.is)) c.append_word-in-NoScript.ensures.ok
+
+pub returns-in-NoScript-clause-front : goal.returns-in-NoScript-clause-front
+returns-in-NoScript-clause-front c = c.append_word-in-NoScript.ensures.front
+
+pub returns-in-NoName-clause-ok : goal.returns-in-NoName-clause-ok
+unfolding reply_text
+returns-in-NoName-clause-ok c = on_ok_weaker c.append_word-in-NoName.result (λ e. e ∙ ap (λ (x : Reply). c.args.out.now.items ++ reply_text x) (sym c.in-NoName.is)) c.append_word-in-NoName.ensures.ok
+
+pub returns-in-NoName-clause-front : goal.returns-in-NoName-clause-front
+returns-in-NoName-clause-front c = c.append_word-in-NoName.ensures.front
+
+pub returns-in-NoSpent-clause-ok : goal.returns-in-NoSpent-clause-ok
+unfolding reply_text
+returns-in-NoSpent-clause-ok c = on_ok_weaker c.append_word-in-NoSpent.result (λ e. e ∙ ap (λ (x : Reply). c.args.out.now.items ++ reply_text x) (sym c.in-NoSpent.is)) c.append_word-in-NoSpent.ensures.ok
+
+pub returns-in-NoSpent-clause-front : goal.returns-in-NoSpent-clause-front
+returns-in-NoSpent-clause-front c = c.append_word-in-NoSpent.ensures.front
+
+pub returns-in-NoAbort-clause-ok : goal.returns-in-NoAbort-clause-ok
+unfolding reply_text
+returns-in-NoAbort-clause-ok c = on_ok_weaker c.append_abort.result (λ e. e ∙ ap (λ (x : Reply). c.args.out.now.items ++ reply_text x) (sym c.in-NoAbort.is)) c.append_abort.ensures.ok
+
+pub returns-in-NoAbort-clause-front : goal.returns-in-NoAbort-clause-front
+returns-in-NoAbort-clause-front c = c.append_abort.ensures.front

@@ -5,11 +5,14 @@ use Rattle.script_text.proofs.expression.+reading.Given as goal
 abbrev pub decreases-read_nested : goal.decreases-read_nested
 decreases-read_nested l = l.nesting * 8
 
-abbrev pub decreases-read_ended : goal.decreases-read_ended
-decreases-read_ended l = l.nesting * 8 + 1
+abbrev pub decreases-read_boxed : goal.decreases-read_boxed
+decreases-read_boxed l = l.nesting * 8 + 1
 
 abbrev pub decreases-read_pair : goal.decreases-read_pair
 decreases-read_pair l = l.nesting * 8 + 2
+
+abbrev pub decreases-read_key_boxed : goal.decreases-read_key_boxed
+decreases-read_key_boxed l = l.nesting * 8 + 2
 
 abbrev pub decreases-read_pair_form : goal.decreases-read_pair_form
 decreases-read_pair_form l = l.nesting * 8 + 3
