@@ -9,11 +9,10 @@ use Rattle.khepri_terms.specs.Terms.{NameText}
 use Rattle.khepri_terms.specs.Order.{path_cmp}
 use Rattle.khepri_types.specs.declared.node.Node.{Node}
 use Rattle.khepri_types.specs.declared.watch.Watch.{Watch}
-use Rattle.khepri_types.specs.Settling.{stable, settle}
+use Rattle.khepri_types.specs.Settling.{stable}
 use Rattle.khepri_types.specs.declared.node.Payload.TheVariants.{Empty}
 use Rattle.khepri_types.specs.Tree.{Tree, fresh, opening_tree}
 use Rattle.khepri_types.proofs.Order.{path_cmp_total, path_cmp-same}
-use Rattle.khepri_types.proofs.Rounds.{settle-ends}
 use Rattle.tree_nodes.specs.Drafts.{Drafted, IsTouched, IsCovered}
 use Rattle.tree_nodes.specs.Next.{IsNext, follows}
 use Rattle.worklist_laws.specs.Candidates.{is_in, IsWithin}
@@ -156,17 +155,10 @@ nothing-stands B D L p holds off none = unlinked_none B L p holds off ∙ sym (a
 pub nothing-watched : (B D : Tree) (L : Links) (p : Path) (n : Node) → HoldsWatches B L → is_some (get L p) ≡ false → get D p ≡ Some n → length n.watches ≡ 0 → targets_of (get B p) ≡ targets_of (get D p)
 nothing-watched B D L p n holds off some few = unlinked_none B L p holds off ∙ sym (ap targets_of some ∙ no_targets n.watches few)
 
-pub settled-stable : (T U : Tree) → U ≡ settle T → IsTrue (stable U)
-settled-stable T U is = ap stable is ∙ settle-ends T
-
 -- what a settled draft came to is over the tree that it began from
-pub is-over : (D E C : Drafted) (paths : List Path) → E.base ≡ D.base → E.tree ≡ settle D.tree → C.base ≡ E.base → C.tree ≡ E.tree → KeepsTargets E.base E.tree paths → (D.base ≡ C.base) × IsTrue (stable C.tree) × KeepsTargets D.base C.tree paths
-is-over D E C paths base tree base' tree' keeps = (
-  sym (base' ∙ base),
-  settled-stable D.tree C.tree (tree' ∙ tree),
-  subst (λ (T : Tree). KeepsTargets D.base T paths) (sym tree') (subst (λ (T : Tree). KeepsTargets T E.tree paths) base keeps),
+pub is-over : (T : Tree) (D C : Drafted) (paths : List Path) → D.base ≡ T → C.base ≡ D.base → C.tree ≡ D.tree → IsTrue (stable D.tree) → KeepsTargets D.base D.tree paths → (T ≡ C.base) × IsTrue (stable C.tree) × KeepsTargets T C.tree paths
+is-over T D C paths over base tree settled keeps = (
+  sym (base ∙ over),
+  subst (λ (U : Tree). IsTrue (stable U)) (sym tree) settled,
+  subst (λ (U : Tree). KeepsTargets T U paths) (sym tree) (subst (λ (B : Tree). KeepsTargets B D.tree paths) over keeps),
 )
-
--- an index that followed the tree at these paths holds its watches
-pub followed-over : (B D : Tree) (paths : List Path) (T U : Tree) (old new : Links) → B ≡ T → D ≡ U → HoldsWatches B old → KeepsTargets B U paths → Follows D paths old new → HoldsWatches D new
-followed-over B D paths T U old new base tree holds keeps f = followed B D paths old new holds (subst (λ (V : Tree). KeepsTargets B V paths) (sym tree) keeps) f

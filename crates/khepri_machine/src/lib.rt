@@ -4,13 +4,10 @@
 //! a tree is kept, or of who asked.
 #![tactic(auto)]
 
-mod finish;
 mod follow;
 mod kept;
+mod links;
 mod machine;
 mod outcome;
-mod refusal;
-mod scan;
-mod shown;
 
 pub use machine::KhepriMachine;

@@ -20,12 +20,13 @@ impl Model for KhepriMachine {
     ghost use Rattle.std.specs.Coded.{codes};
     ghost use Rattle.std.specs.FinMap.{code};
     ghost use Rattle.khepri_types.specs.contracts.condition.Condition as condition;
+    ghost use Rattle.khepri_types.specs.contracts.script.Statement as statement;
     ghost use Rattle.khepri_types.specs.Exec.{State};
     ghost use Rattle.khepri_machine.specs.Keeping.{kept_state};
 
     ghost Value = { State };
 
-    ghost coded = { Prim.hlevel (code, codes, condition.the_row.coded) };
+    ghost coded = { Prim.hlevel (code, codes, condition.the_row.coded, statement.the_row.coded) };
 
     ghost view = { λ m. kept_state m.kept };
 }

@@ -1,8 +1,0 @@
-use Rattle.khepri_machine.proofs.Masking.{Climbed}
-use Rattle.khepri_machine.proofs.scan.climb.Given as goal
-
-abbrev pub invariant-up : goal.invariant-up
-invariant-up l = Climbed l.from l.to l.names l.fn.masks l.masks
-
-abbrev pub decreases-up : goal.decreases-up
-decreases-up l = l.names

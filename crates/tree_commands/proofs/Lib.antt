@@ -1,0 +1,9 @@
+pub mod Seeing
+pub mod Sparing
+pub mod Writing
+pub mod Masking
+pub mod Gathering
+pub mod Listing
+pub mod Refusing
+pub mod Touching
+pub mod Settled

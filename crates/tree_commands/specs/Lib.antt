@@ -1,0 +1,5 @@
+pub mod Refusals
+pub mod Replies
+pub mod Scans
+pub mod Listing
+pub mod Starts
