@@ -2,7 +2,8 @@
 use itoa::Buffer;
 use khepri_terms::Bytes;
 use khepri_terms::texts::print_byte;
-use khepri_types::{Outcome, Refusal, Value};
+use khepri_types::{Outcome, Value};
+use line_text::print_reply;
 use std::alloc::AllocError;
 
 /// Appends `done` and the values, or `no` and why.
@@ -20,17 +21,7 @@ pub fn append_outcome(outcome: &Outcome, out: &mut Vec<u8>) -> Result<(), AllocE
             append_quoted(text, out)
         }
         Outcome::Spent => out.extend_from_slice(b"no spent"),
-        Outcome::Refused(refusal) => out.extend_from_slice(refusal_words(*refusal)),
-    }
-}
-
-fn refusal_words(refusal: Refusal) -> &'static [u8] {
-    match refusal {
-        Refusal::Root => b"no root",
-        Refusal::Deep => b"no deep",
-        Refusal::Absent => b"no absent",
-        Refusal::Full => b"no full",
-        Refusal::Name => b"no name",
+        Outcome::Refused(reply) => print_reply(reply, out),
     }
 }
 

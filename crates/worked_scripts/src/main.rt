@@ -5,8 +5,6 @@
 #![tactic(auto)]
 
 mod answer;
-mod drafted;
-mod matched;
 mod run;
 
 use run::tell;

@@ -145,6 +145,7 @@ fn is_full(payload: &Payload) -> bool {
     match payload {
         Payload::Empty => false,
         Payload::Fields(_) => true,
+        Payload::Proc(_) => true,
     }
 }
 

@@ -144,6 +144,31 @@ fn del_both<L: Ledger>(
     Ok(agrees(&asked(machine, &Command::Del { path })?, plain))
 }
 
+// Whether the machine shows what the plain tree does: the versions and how many children, or that no node stands.
+fn shows(reply: &Option<Reply>, plain: Option<(u64, u64, u64)>) -> bool {
+    match (reply, plain) {
+        (
+            Some(
+                Reply::Node {
+                    pv,
+                    cv,
+                    kids,
+                    payload: _,
+                },
+            ),
+            Some(node),
+        ) => (*pv, *cv, *kids) == node,
+        (Some(Reply::NoAbsent), None) => true,
+        _ => false,
+    }
+}
+
+// The versions of the node at the path, and how many children it has.
+fn plain_get<L: Ledger>(tree: &Tree, path: &Path, steps: &mut Steps<L>) -> Option<(u64, u64, u64)> {
+    let node = tree.node(path, steps)?;
+    Some((node.pv, node.cv, node.kids))
+}
+
 // Whether the same stands at the path.
 fn same_at<L: Ledger>(
     machine: &mut KhepriMachine,
@@ -151,20 +176,8 @@ fn same_at<L: Ledger>(
     path: Path,
     steps: &mut Steps<L>,
 ) -> Result<bool, TextFault> {
-    let view = tree.node(&path, steps);
-    let shown = view.map(|node| (node.pv, node.cv, node.kids));
-    match asked(machine, &Command::Get { path })? {
-        Some(
-            Reply::Node {
-                pv,
-                cv,
-                kids,
-                payload: _,
-            },
-        ) => Ok(shown == Some((pv, cv, kids))),
-        Some(Reply::NoAbsent) => Ok(shown.is_none()),
-        _ => Ok(false),
-    }
+    let plain = plain_get(tree, &path, steps);
+    Ok(shows(&asked(machine, &Command::Get { path })?, plain))
 }
 
 fn runs<L: Ledger>(alloc: Global, tree: Tree, seed: u64, blank: Blank) -> Result<bool, TextFault>
